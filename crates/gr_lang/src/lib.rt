@@ -1,0 +1,9 @@
+//! The task language: its syntax trees, the actions of its tasks, and the definitions that say what a
+//! program means on one plain memory.
+#![tactic(auto)]
+
+pub mod action;
+pub mod lists;
+pub mod operation;
+pub mod refusal;
+pub mod syntax;

@@ -1,0 +1,17 @@
+-- The line and column of a place in a text: a newline goes to the first column of the next line, and every other byte one column on.
+use Rattle.std.specs.Prelude.{ℕ, ◌+◌, ◌==◌, if◌then◌else◌, List, [], ◌∷◌, take}
+use Rattle.gr_lang.specs.declared.syntax.Place.{Place}
+
+abbrev pub first_place : Place
+first_place = record { line = 1; column = 1 }
+
+abbrev pub after_byte : Place → ℕ → Place
+after_byte p b = if b == 10 then record { line = p.line + 1; column = 1 } else record { line = p.line; column = p.column + 1 }
+
+-- The place after these bytes.
+abbrev pub after_bytes : Place → List ℕ → Place
+after_bytes p [] = p
+after_bytes p (b ∷ bs) = after_bytes (after_byte p b) bs
+
+abbrev pub place_of : List ℕ → ℕ → Place
+place_of text at = after_bytes first_place (take at text)
