@@ -1,0 +1,3 @@
+pub mod TaskIds
+pub mod Nexts
+pub mod Opens

@@ -1,3 +1,11 @@
 pub mod Faults
 pub mod Operations
 pub mod Fields
+pub mod Locals
+pub mod Expressions
+pub mod Objects
+pub mod Openings
+pub mod Next
+pub mod States
+pub mod Steps
+pub mod Histories
