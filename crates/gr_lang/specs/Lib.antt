@@ -1,3 +1,10 @@
 pub mod Faults
 pub mod Operations
 pub mod Fields
+pub mod Names
+pub mod Declarations
+pub mod Sites
+pub mod Targets
+pub mod Walks
+pub mod Conditions
+pub mod Accepted

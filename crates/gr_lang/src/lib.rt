@@ -2,6 +2,7 @@
 //! program means on one plain memory.
 #![tactic(auto)]
 
+pub mod accepted;
 pub mod action;
 pub mod lists;
 pub mod operation;
