@@ -8,3 +8,4 @@ pub mod Targets
 pub mod Walks
 pub mod Conditions
 pub mod Accepted
+pub mod AcceptedRows

@@ -7,4 +7,5 @@ pub mod action;
 pub mod lists;
 pub mod operation;
 pub mod refusal;
+pub mod rows;
 pub mod syntax;
