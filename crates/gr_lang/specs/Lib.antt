@@ -9,3 +9,11 @@ pub mod Next
 pub mod States
 pub mod Steps
 pub mod Histories
+pub mod Names
+pub mod Declarations
+pub mod Sites
+pub mod Targets
+pub mod Walks
+pub mod Conditions
+pub mod Accepted
+pub mod AcceptedRows
