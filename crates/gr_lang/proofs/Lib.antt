@@ -2,3 +2,4 @@ pub mod TaskIds
 pub mod Nexts
 pub mod Opens
 pub mod AcceptedRows
+pub mod StepRows

@@ -9,7 +9,8 @@ use Rattle.std.specs.Ordering.{nat_cmp, eq_by_cmp, is_lt}
 use Rattle.std.specs.Cmp.{IsTotalOrder, nat_cmp_total, eq_by_cmp_equiv}
 use Rattle.std.proofs.lemmas.Cmp.{on_total, then_total}
 use Rattle.std.proofs.lemmas.Map.Lookups.{CmpEqualImpliesEq, exact_pairs, exact_unsigned}
-use Rattle.std.specs.FinMap.{FinMap, find, from_entries, insert, remove, get, get-from_entries, get-insert, get-remove, same_map, entries, get-from_sorted, entries-from_sorted}
+use Rattle.std.specs.FinMap.{FinMap, find, from_entries, insert, remove, get, get-from_entries, get-insert, get-remove, same_map, entries, empty, get-from_sorted, entries-from_sorted, entries-insert, get-empty}
+use Rattle.std.specs.FinMap.Entries.{put}
 use Rattle.std.specs.Map.{lookup}
 use Rattle.std.specs.BTreeMap.{is_at}
 use Rattle.gr_lang.specs.declared.action.TaskId.{TaskId}
@@ -66,3 +67,25 @@ module _ {X : Type 0} where
 
   pub entries_id : (es : List (TaskId × X)) → IsStrictlySortedBy id_cmp (map (λ e. e.0) es) → entries (from_entries {R = id_cmp} es) ≡ es
   entries_id es h = ap entries (same_map ids_total ids_exact _ _ (λ q. get-from_entries ids_total es q ∙ sym (get-from_sorted id_cmp es q (ascending es h)))) ∙ entries-from_sorted id_cmp es (ascending es h)
+
+  -- Looking up and listing what was put in, with no premise.
+  pub get_put : (m : FinMap id_cmp X) (s : TaskId) (n : X) (q : TaskId) → get (insert m s n) q ≡ cond (eq_by_cmp id_cmp q s) (Some n) (get m q)
+  get_put m s n q = get-insert ids_total m s n q
+
+  pub get_none : (q : TaskId) → get (empty {X = X} {R = id_cmp}) q ≡ None
+  get_none q = get-empty id_cmp q
+
+  pub entries_put : (m : FinMap id_cmp X) (s : TaskId) (n : X) → entries (insert m s n) ≡ put id_cmp s n (entries m)
+  entries_put m s n = entries-insert ids_total m s n
+
+  pub entries_none : entries (empty {X = X} {R = id_cmp}) ≡ []
+  unfolding IsStrictlySortedBy
+  entries_none = entries_id [] tt
+
+  -- A task that is put in twice counts as put in the second time.
+  pub put_twice : (m : FinMap id_cmp X) (s : TaskId) (n k : X) → insert (insert m s n) s k ≡ insert m s k
+  put_twice m s n k = same_map ids_total ids_exact _ _ (λ q.
+      get-insert ids_total (insert m s n) s k q ∙ ap (cond (eq_by_cmp id_cmp q s) (Some k)) (get-insert ids_total m s n q)
+      ∙ chosen (eq_by_cmp id_cmp q s) (Some k) (Some n) (get m q) ∙ sym (get-insert ids_total m s k q))
+
+pub ruleset by_ids = (get_put, get_none, entries_put, entries_none)

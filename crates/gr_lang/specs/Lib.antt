@@ -17,3 +17,4 @@ pub mod Walks
 pub mod Conditions
 pub mod Accepted
 pub mod AcceptedRows
+pub mod StepRows

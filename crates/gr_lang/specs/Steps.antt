@@ -66,7 +66,7 @@ call_step p L S id t _ op w = None
 abbrev pub spawn_step : Program → ℕ → ℕ → State → TaskId → Task → Action → How → ℕ → List ℕ → TaskId → Option State
 spawn_step p N L S id t (a.Spawn way target args) way2 target2 args2 kid =
     when (same_how way way2 && (target == target2) && bytes_eq args args2 && has_core N way && is_new S kid)
-      (set_task (set_task S id (goes_on p L t nothing)) kid (child p L (innermost t) target args))
+    (set_task (set_task S id (goes_on p L t nothing)) kid (child p L (innermost t) target args))
 spawn_step p N L S id t _ way target args kid = None
 
 -- Finish: a scope is opened, and the task goes on in it.
@@ -78,7 +78,7 @@ finish_step p L S id t _ = None
 abbrev pub loop_step : State → TaskId → Task → Action → ℕ → ℕ → ℕ → ℕ → List ℕ → Option State
 loop_step S id t (a.Loop lo hi grain target args) lo2 hi2 grain2 target2 args2 =
     when (lo == lo2 && hi == hi2 && grain == grain2 && target == target2 && bytes_eq args args2)
-      (open_scope S id t (record t { mode = at_loop }) (Some (record { lo = lo; hi = hi; target = target; args = args; begun = [] })))
+    (open_scope S id t (record t { mode = at_loop }) (Some (record { lo = lo; hi = hi; target = target; args = args; begun = [] })))
 loop_step S id t _ lo hi grain target args = None
 
 -- Begin: an index of the range that hasn't begun begins as a new task in the loop's scope, with the index before the arguments.
@@ -86,7 +86,7 @@ abbrev pub begin_in : Program → ℕ → State → TaskId → ℕ → ℕ → T
 begin_in p L S owner s index kid scope None = None
 begin_in p L S owner s index kid scope (Some r) =
     when (nat_le r.lo index && nat_lt index r.hi && not (list_any (λ k. k == index) r.begun) && is_new S kid)
-      (record (set_task S kid (child p L s r.target (index ∷ r.args))) { scopes = slice_set S.scopes s (record scope { range = Some (record r { begun = index ∷ r.begun }) }) })
+    (record (set_task S kid (child p L s r.target (index ∷ r.args))) { scopes = slice_set S.scopes s (record scope { range = Some (record r { begun = index ∷ r.begun }) }) })
 
 abbrev pub begin_at : Program → ℕ → State → TaskId → ℕ → TaskId → List ℕ → Option State
 begin_at p L S owner index kid [] = None

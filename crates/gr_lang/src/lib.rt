@@ -8,4 +8,5 @@ pub mod lists;
 pub mod operation;
 pub mod refusal;
 pub mod rows;
+pub mod step_rows;
 pub mod syntax;
