@@ -1,0 +1,5 @@
+//! One command from bytes to bytes.
+#![tactic(auto)]
+
+mod built;
+mod probe;
