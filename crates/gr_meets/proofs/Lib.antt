@@ -1,1 +1,4 @@
 pub mod Meets
+pub mod Completes
+pub mod Agrees
+pub mod Runs
