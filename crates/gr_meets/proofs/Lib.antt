@@ -2,3 +2,4 @@ pub mod Meets
 pub mod Completes
 pub mod Agrees
 pub mod Runs
+pub mod Commas

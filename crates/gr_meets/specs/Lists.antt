@@ -1,5 +1,5 @@
 -- Languages of lists of elements and of chains of binary signs, made of the language of their parts.
-use Rattle.std.specs.Prelude.{◌≡◌, ℕ, suc, ◌+◌, Bool, false, List, [], ◌∷◌, ◌++◌, Option, Some}
+use Rattle.std.specs.Prelude.{◌≡◌, ℕ, zero, suc, ◌+◌, Bool, false, List, [], ◌∷◌, ◌++◌, Option, Some}
 use Rattle.gr_meets.specs.Parsers.{halts}
 
 -- Elements, one behind the other.
@@ -38,3 +38,12 @@ pub record Extends {T A : Type 0} (E : List T → A → Type 0) (xs : List A) (t
 pub record Begins {T A : Type 0} (stop : T → Bool) (E : List T → A → Type 0) (F : List T → Type 0) : Type 0 where
   pub goes : (ts : List T) (x : A) → E ts x → (rest : List T) → halts stop (ts ++ rest) ≡ false
   pub follows : (ts : List T) (x : A) → E ts x → (rest : List T) → F (ts ++ rest)
+
+-- An element behind a comma.
+pub data Behind {T A : Type 0} (comma : T) (E : List T → A → Type 0) : List T → A → Type 0 where
+  behind : {ts : List T} {x : A} → E ts x → Behind comma E (comma ∷ ts) x
+
+-- What a chain of signs spells that has so many levels, the tightest first.
+abbrev pub Levels : {T A O : Type 0} → (ℕ → T → Option O) → (O → A → A → A) → (List T → A → ℕ → Type 0) → ℕ → List T → A → ℕ → Type 0
+Levels sign two E zero = E
+Levels sign two E (suc l) = Chained (sign l) two (Levels sign two E l)
