@@ -3,3 +3,4 @@ pub mod Completes
 pub mod Agrees
 pub mod Runs
 pub mod Commas
+pub mod Chains
