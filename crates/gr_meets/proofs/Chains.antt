@@ -77,12 +77,12 @@ module _ {T A O : Type 0} (sign : T → Option O) (two : O → A → A → A) (o
   unfolding turn
   chain_read n goes (x, zero) o ts h = read_refuse (K (x, 0)) (W (x, 0)) ts [] (x, 0) (λ a f. bare sign two V total a (x, 0) f)
   chain_read n goes (x, suc b) o ts h =
-    let m : Means sign o ts = peek_means sign o ts h in
-    let q : A × ℕ → Parser T (A × ℕ) = λ y. chain sign two operand n (two o x y.0, y.1) in
-    skip_then m.token (operand b >>= q) (K (x, suc b)) (W (x, suc b)) ts m.heads
+      let m : Means sign o ts = peek_means sign o ts h in
+      let q : A × ℕ → Parser T (A × ℕ) = λ y. chain sign two operand n (two o x y.0, y.1) in
+      skip_then m.token (operand b >>= q) (K (x, suc b)) (W (x, suc b)) ts m.heads
       (bind_also {q = q} {K = λ u z. K (x, suc b) (m.token ∷ u) z} {W = λ u z. W (x, suc b) (m.token ∷ u) z} (reads b) (spends_also b)
-        (λ y. weaken (goes (two o x y.0, y.1)) (λ u z k c g a f. moved sign two E total b x y o m.token m.means u z k c g a f) (λ u z k c g a f. moved sign two V total b x y o m.token m.means u z k c g a f))
-        (λ c y g. ([], (two o x y.0, y.1), λ a f. stays sign two V total b x y o m.token m.means c g a f)))
+      (λ y. weaken (goes (two o x y.0, y.1)) (λ u z k c g a f. moved sign two E total b x y o m.token m.means u z k c g a f) (λ u z k c g a f. moved sign two V total b x y o m.token m.means u z k c g a f))
+      (λ c y g. ([], (two o x y.0, y.1), λ a f. stays sign two V total b x y o m.token m.means c g a f)))
 
   chain_way : (n : ℕ) (x : A × ℕ) → Option O → Parser T (A × ℕ)
   chain_way n x o = go_on (pure x) (turn sign two operand n x) o

@@ -4,3 +4,4 @@ pub mod Agrees
 pub mod Runs
 pub mod Commas
 pub mod Chains
+pub mod Levels
