@@ -1,8 +1,8 @@
 -- Where an exact parser stops, the first fault is, and nowhere else.
-use Rattle.std.proofs.Common.{◌≡◌, ℕ, zero, suc, ◌+◌, ◌-◌, ◌<◌, ◌≤◌, Bool, true, false, List, [], ◌∷◌, ◌++◌, length, Result, Ok, Err, refl, sym, ap, subst, ◌∙◌, append_assoc, arith}
+use Rattle.std.proofs.Common.{◌≡◌, ℕ, suc, ◌+◌, ◌<◌, ◌≤◌, List, [], ◌∷◌, ◌++◌, length, Ok, Err, refl, sym, ap, subst, ◌∙◌, append_assoc, arith}
 use Rattle.std.proofs.lemmas.List.{append-nil, length-append}
 use Rattle.gr_meets.specs.Parsers.{Outcome, Parser}
-use Rattle.gr_meets.specs.Languages.{Alike, Stopped, Meets, Agree, Exact}
+use Rattle.gr_meets.specs.Languages.{Alike, Exact}
 use Rattle.gr_meets.specs.Faults.{Continues, IsRefused, FirstFault}
 use Rattle.gr_meets.proofs.Meets.{took, stopped}
 

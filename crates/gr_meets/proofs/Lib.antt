@@ -6,3 +6,4 @@ pub mod Commas
 pub mod Chains
 pub mod Levels
 pub mod FirstFaults
+pub mod Examples
