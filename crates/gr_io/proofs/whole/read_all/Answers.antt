@@ -1,4 +1,4 @@
-use Rattle.std.proofs.Common.{◌++◌, ◌+◌, ◌≤◌, length, take, arith, length-append, length-take}
+use Rattle.std.proofs.Common.{◌++◌, ◌+◌, take, arith, length-append, length-take}
 use Rattle.std.proofs.KnownBytes.{Consumes-trans}
 use Rattle.gr_io.proofs.whole.read_all.Goals as goal
 
