@@ -1,2 +1,5 @@
+pub mod Commands
 pub mod Built
 pub mod Alone
+pub mod Texts
+pub mod Due

@@ -1,0 +1,50 @@
+//! How a call ends.
+use gr_lang::action::{TaskId, TrapKind};
+use gr_lang::lists::History;
+use gr_lang::refusal::Kind;
+
+/// Why a call didn't end as it might have.
+#[derive(Clone, Copy, Debug, PartialEq, Eq)]
+pub enum Refusal {
+    /// It did: the program ran to its end, or was accepted.
+    Nothing,
+    /// The text is no program, isn't accepted, or isn't run yet. Line and column count from 1.
+    Refused { kind: Kind, line: u64, column: u64 },
+    /// The words are no command.
+    Usage,
+    /// A task was trapped; the first trap of the history.
+    Trap { kind: TrapKind, task: TaskId },
+    /// The source failed.
+    ReadFault,
+    /// The sink failed after it got so many bytes of the text.
+    WriteFault { written: u64 },
+    /// Memory was wanting.
+    Memory,
+    /// The source held more than 2^20 bytes.
+    TooLong,
+}
+
+/// What is left of a run.
+#[derive(Drop)]
+pub struct WorldEnd {
+    /// All that the tasks did, in one order.
+    pub history: History,
+}
+
+/// The end of a call.
+#[derive(Drop)]
+pub struct RunEnd {
+    /// The exit status: 0 to 6 or 8, one for each kind of refusal.
+    pub status: u8,
+    pub refusal: Refusal,
+    /// What is left of the run, where one was made.
+    pub world: Option<WorldEnd>,
+}
+
+/// An answer whose text is whole, and not yet written.
+#[derive(Drop)]
+pub(crate) struct Answer {
+    pub refusal: Refusal,
+    pub text: String,
+    pub world: Option<WorldEnd>,
+}

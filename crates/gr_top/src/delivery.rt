@@ -1,0 +1,54 @@
+//! The one place that writes.
+ghost use Rattle.std.specs.Prelude.{◌≡◌, ◌≢◌, ℕ, ◌≤◌, is_some, string_bytes};
+ghost use Rattle.gr_io.specs.Faults.{Rose};
+ghost use Rattle.gr_top.specs.Due.{status_of, Comes, IsWritten};
+
+use crate::answer::{Answer, Refusal, RunEnd};
+use gr_io::{Sink, write_all};
+
+/// The exit status that goes with a refusal.
+pub(crate) fn status(refusal: Refusal) -> u8
+    ensures { result ≡ status_of refusal }
+{
+    match refusal {
+        Refusal::Nothing => 0,
+        Refusal::Refused { .. } => 1,
+        Refusal::Usage => 2,
+        Refusal::Trap { .. } => 3,
+        Refusal::ReadFault => 4,
+        Refusal::WriteFault { .. } => 5,
+        Refusal::Memory => 6,
+        Refusal::TooLong => 8,
+    }
+}
+
+/// Writes an answer. It takes no memory.
+pub(crate) fn deliver<K: Sink>(sink: &mut K, answer: Answer) -> RunEnd
+    requires { IsWritten answer.refusal }
+    ensures comes { Comes (record { refusal = answer.refusal; text = string_bytes answer.text; ran = is_some answer.world }) (K.got sink.old) (K.got sink.new) result.refusal result.world }
+    ensures not_read_fault { result.refusal ≢ Refusal.ReadFault }
+    ensures not_memory { result.refusal ≢ Refusal.Memory }
+    ensures status { result.status ≡ status_of result.refusal }
+    ensures world { result.world ≡ answer.world }
+    ensures fault { (written : ℕ) → result.refusal ≡ Refusal.WriteFault written → Rose (K.faults sink.old) (K.faults sink.new) }
+    ensures given { ((written : ℕ) → result.refusal ≢ Refusal.WriteFault written) → result.refusal ≡ answer.refusal }
+    ensures later { K.faults sink.old ≤ K.faults sink.new }
+{
+    let Answer {
+        refusal,
+        text,
+        world,
+    } = answer;
+    let wrote = write_all(sink, text.as_bytes());
+    let refusal = match wrote {
+        Ok(()) => refusal,
+        Err(fault) => Refusal::WriteFault {
+            written: fault.written,
+        },
+    };
+    RunEnd {
+        status: status(refusal),
+        refusal,
+        world,
+    }
+}
