@@ -1,1 +1,6 @@
+pub mod Found
+pub mod Longest
+pub mod Runs
+pub mod Signs
+pub mod Steps
 pub mod Words

@@ -1,8 +1,9 @@
 //! What stands at the front of a text.
-ghost use Rattle.std.specs.Prelude.{◌≡◌, ℕ, ◌≤◌, ◌<◌, ◌^◌, ◌||◌, true, false, ◌∷◌, length, take, drop, List, MatchOption, IfSome};
+ghost use Rattle.std.specs.Prelude.{◌≡◌, ℕ, ◌+◌, ◌*◌, ◌≤◌, ◌<◌, ◌^◌, ◌||◌, true, false, ◌∷◌, length, take, drop, List, MatchOption, IfSome};
 ghost use Rattle.std.specs.List.{prefix_len};
+ghost use Rattle.std.specs.Char.{digit_value};
 ghost use Rattle.std.specs.Str.Parse.{digits_value};
-ghost use Rattle.gr_text.specs.Text.{is_word, is_digit, is_white, is_letter, not_newline, blank_len, HasHead};
+ghost use Rattle.gr_text.specs.Text.{are_all, is_word, is_digit, is_white, is_letter, not_newline, blank_len, HasHead};
 ghost use Rattle.gr_text.specs.Front.{IsFront, single_sign, double_sign, front_sign};
 
 use crate::spelling::keyword;
@@ -102,14 +103,28 @@ fn blank_len(text: &[u8]) -> usize
     }
 }
 
+/// The number with one more digit behind it, unless it is too wide.
+fn shifted(n: u64, digit: u8) -> Option<u64>
+    requires { is_digit digit ≡ true }
+    ensures { MatchOption result (2 ^ 64 ≤ n * 10 + digit_value digit) (λ m. m ≡ n * 10 + digit_value digit) }
+{
+    match n.checked_mul(10) {
+        Some(tens) => tens.checked_add(u64::from(digit - b'0')),
+        None => None,
+    }
+}
+
 /// The number that the digits write, unless it is too wide.
 fn value(digits: &[u8]) -> Option<u64>
-    requires { prefix_len is_digit digits.now ≡ length digits.now }
+    requires { are_all is_digit digits.now ≡ true }
     ensures { MatchOption result (2 ^ 64 ≤ digits_value 10 digits.now) (λ n. n ≡ digits_value 10 digits.now) }
 {
     let mut n: u64 = 0;
-    for b in digits {
-        n = n.checked_mul(10)?.checked_add(u64::from(*b - b'0'))?;
+    'each: for digit in digits {
+        match shifted(n, *digit) {
+            Some(more) => n = more,
+            None => return None,
+        }
     }
     Some(n)
 }

@@ -1,6 +1,6 @@
-use Rattle.std.proofs.Common.{◌≡◌, ℕ, take}
+use Rattle.std.proofs.Common.{◌≡◌, take}
 use Rattle.std.specs.Str.Parse.{digits_value}
 use Rattle.gr_text.proofs.front.value.Given as goal
 
-abbrev pub invariant-loop-b : goal.invariant-loop-b
-invariant-loop-b l = l.n ≡ digits_value 10 (take l.b-index l.digits)
+abbrev pub invariant-each : goal.invariant-each
+invariant-each l = l.n ≡ digits_value 10 (take l.digit-index l.digits)

@@ -4,8 +4,7 @@ use Rattle.gr_text.proofs.placing.advance.Given as goal
 
 abbrev pub invariant-each : goal.invariant-each
 invariant-each l = record {
-  left : after_bytes l.place (drop l.each-index l.bytes) ≡ after_bytes l.start l.bytes;
-  line : l.place.line ≤ l.start.line + l.each-index;
-  column : l.place.column ≤ l.start.column + l.each-index;
-  low : 0 ≤ 0;
+  left : after_bytes l.place (drop l.byte-index l.bytes) ≡ after_bytes l.fn.start l.bytes;
+  line : l.place.line ≤ l.fn.start.line + l.byte-index;
+  column : l.place.column ≤ l.fn.start.column + l.byte-index;
 }

@@ -5,4 +5,4 @@ use Rattle.gr_text.proofs.Words.{rank}
 use Rattle.gr_text.proofs.spelling.keyword.Given as goal
 
 abbrev pub invariant-each : goal.invariant-each
-invariant-each l = (k : Keyword) → rank k < l.each-index → l.word ≢ keyword_bytes k
+invariant-each l = (k : Keyword) → rank k < l.keyword-index → l.word ≢ keyword_bytes k
