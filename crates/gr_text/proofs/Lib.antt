@@ -1,5 +1,6 @@
 pub mod Found
 pub mod Longest
+pub mod Reading
 pub mod Runs
 pub mod Signs
 pub mod Steps

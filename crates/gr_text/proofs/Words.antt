@@ -1,6 +1,8 @@
 -- Facts of each keyword.
-use Rattle.std.proofs.Common.{◌≡◌, ◌≢◌, ℕ, ◌+◌, ◌<◌, ◌≤◌, ◌^◌, ◌*◌, Bool, true, false, cond, List, [], ◌∷◌, length, get_or, Option, Some, None, refl, sym, ap, ◌∙◌, arith, lit≤, lit<}
-use Rattle.std.specs.Prelude.{◌==◌, if◌then◌else◌}
+use Rattle.std.proofs.Common.{◌≡◌, ◌≢◌, ℕ, ◌+◌, ◌<◌, ◌≤◌, ◌^◌, ◌*◌, Bool, true, false, cond, List, [], ◌∷◌, length, get_or, Option, Some, None, zero, suc, inl, inr, refl, sym, ap, ◌∙◌, arith, lit≤, lit<}
+use Rattle.std.specs.Prelude.{◌⊎◌, ◌==◌, if◌then◌else◌}
+use Rattle.std.specs.Str.{bytes_eq}
+use Rattle.std.proofs.lemmas.Slice.Eq.{bytes_eq-Decides}
 use Rattle.gr_text.specs.declared.token.Keyword.{Keyword}
 use Rattle.gr_text.specs.declared.token.Keyword.TheVariants.{Array, Set, Map, Vector, Heap, Input, Show, Task, Let, If, Else, While, Print, Spawn, At, Offer, Finish, Forall, Grain}
 use Rattle.gr_text.specs.Spelling.{keyword_bytes}
@@ -145,3 +147,40 @@ rank_less Offer = lit< tt
 rank_less Finish = lit< tt
 rank_less Forall = lit< tt
 rank_less Grain = lit< tt
+
+abbrev pub all : List Keyword
+all = Array ∷ Set ∷ Map ∷ Vector ∷ Heap ∷ Input ∷ Show ∷ Task ∷ Let ∷ If ∷ Else ∷ While ∷ Print ∷ Spawn ∷ At ∷ Offer ∷ Finish ∷ Forall ∷ Grain ∷ []
+
+pub at_rank : (k d : Keyword) → get_or all (rank k) d ≡ k
+at_rank Array d = refl
+at_rank Set d = refl
+at_rank Map d = refl
+at_rank Vector d = refl
+at_rank Heap d = refl
+at_rank Input d = refl
+at_rank Show d = refl
+at_rank Task d = refl
+at_rank Let d = refl
+at_rank If d = refl
+at_rank Else d = refl
+at_rank While d = refl
+at_rank Print d = refl
+at_rank Spawn d = refl
+at_rank At d = refl
+at_rank Offer d = refl
+at_rank Finish d = refl
+at_rank Forall d = refl
+at_rank Grain d = refl
+
+-- A word that is written as none of the first keywords, nor as the one at this rank.
+pub no_more : (word written : Text) (i : ℕ) (d : Keyword) → ((k : Keyword) → rank k < i → word ≢ keyword_bytes k) → written ≡ keyword_bytes (get_or all i d) → word ≢ written → (k : Keyword) → rank k < i + 1 → word ≢ keyword_bytes k
+no_more word written i d before e other k less same = elim (lt-or-eq (rank k) i (omega arith)) as (λ _. ⊥) [ inl below ↦ before k below same | inr at ↦ other (same ∙ sym (e ∙ ap keyword_bytes (ap (λ (n : ℕ). get_or all n d) (sym at) ∙ at_rank k d))) ]
+  where
+    lt-or-eq : (a b : ℕ) → a ≤ b → (a < b) ⊎ (a ≡ b)
+    lt-or-eq zero zero h = inr refl
+    lt-or-eq zero (suc b) h = inl (omega arith)
+    lt-or-eq (suc a) zero h = absurd (omega arith)
+    lt-or-eq (suc a) (suc b) h = elim (lt-or-eq a b (omega arith)) as (λ _. (suc a < suc b) ⊎ (suc a ≡ suc b)) [ inl x ↦ inl (omega arith) | inr x ↦ inr (ap suc x) ]
+
+pub unequal : (word written bytes : Text) (r : Bool) → r ≡ bytes_eq word bytes → bytes ≡ written → r ≡ false → word ≢ written
+unequal word written bytes r e same h f = let t : bytes_eq word bytes ≡ true = (bytes_eq-Decides word bytes).1 (f ∙ sym same) in cc
