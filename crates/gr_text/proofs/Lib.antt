@@ -4,4 +4,5 @@ pub mod Reading
 pub mod Runs
 pub mod Signs
 pub mod Steps
+pub mod Well
 pub mod Words

@@ -145,3 +145,6 @@ the_end whole at p rest found h e =
     subst (λ (n : ℕ). Final whole (Ok (found ++ record { kind = kinds.End; from = at; to = n; at = p } ∷ []))) (omega arith)
       (subst (λ (x : Place). Final whole (Ok (found ++ record { kind = kinds.End; from = at; to = at + 0; at = x } ∷ []))) (sym h.place)
         (final whole at p rest found (Ok (token_at whole kinds.End at 0 ∷ [])) h (ends_reads whole at rest e) (λ r k. ends_only whole at rest r e k)))
+
+pub reached_low : (whole : Text) (at : ℕ) (p : Place) (rest : Text) (found : List Token) → Reached whole at p rest found → Low p (at + 1)
+reached_low whole at p rest found h = subst (λ (x : Place). Low x (at + 1)) (sym h.place) (place_low whole at (omega (arith, h.size)))
