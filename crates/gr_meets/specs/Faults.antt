@@ -1,0 +1,20 @@
+-- The first fault of a text in a language: the first token with which nothing of the language goes on.
+use Rattle.std.specs.Prelude.{◌≡◌, ℕ, List, [], ◌∷◌, ◌++◌, length}
+
+-- Something of the language begins so.
+abbrev pub Continues : {T A : Type 0} → (List T → A → Type 0) → List T → Type 0
+Continues {T} {A} W ts = (more : List T) × (x : A) × W (ts ++ more) x
+
+-- Nothing of the language goes on with the next token, or ends where there is none.
+abbrev pub IsRefused : {T A : Type 0} → (List T → A → Type 0) → List T → List T → Type 0
+IsRefused {T} {A} W front [] = (x : A) → W front x → ⊥
+IsRefused W front (t ∷ rest) = Continues W (front ++ t ∷ []) → ⊥
+
+-- The first token after which nothing of the language goes on is the one from which on so many are left; none left: the end itself.
+pub record FirstFault {T A : Type 0} (W : List T → A → Type 0) (ts : List T) (left : ℕ) : Type 0 where
+  pub front : List T
+  pub rest : List T
+  pub parts : ts ≡ front ++ rest
+  pub place : left ≡ length rest
+  pub before : Continues W front
+  pub refused : IsRefused W front rest

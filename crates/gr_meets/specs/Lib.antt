@@ -1,0 +1,4 @@
+pub mod Parsers
+pub mod Languages
+pub mod Lists
+pub mod Faults
