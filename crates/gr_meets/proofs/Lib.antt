@@ -1,1 +1,5 @@
 pub mod Meets
+pub mod Completes
+pub mod Agrees
+pub mod Runs
+pub mod Commas

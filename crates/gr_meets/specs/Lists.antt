@@ -1,5 +1,6 @@
 -- Languages of lists of elements and of chains of binary signs, made of the language of their parts.
-use Rattle.std.specs.Prelude.{◌≡◌, ℕ, suc, ◌+◌, List, [], ◌∷◌, ◌++◌, Option, Some}
+use Rattle.std.specs.Prelude.{◌≡◌, ℕ, zero, suc, ◌+◌, Bool, false, List, [], ◌∷◌, ◌++◌, Option, Some}
+use Rattle.gr_meets.specs.Parsers.{halts}
 
 -- Elements, one behind the other.
 pub data Repeated {T A : Type 0} (E : List T → A → Type 0) : List T → List A → Type 0 where
@@ -26,3 +27,23 @@ pub record Spends {T A : Type 0} (E : List T → A → ℕ → Type 0) (budget :
   pub signs : ℕ
   pub spelled : E ts x.0 signs
   pub sum : signs + x.1 ≡ budget
+
+-- What elements spell behind those that were read before.
+pub record Extends {T A : Type 0} (E : List T → A → Type 0) (xs : List A) (ts : List T) (ys : List A) : Type 0 where
+  pub new : List A
+  pub spelled : Repeated E ts new
+  pub all : ys ≡ xs ++ new
+
+-- No run of elements halts at one, and one may follow an element.
+pub record Begins {T A : Type 0} (stop : T → Bool) (E : List T → A → Type 0) (F : List T → Type 0) : Type 0 where
+  pub goes : (ts : List T) (x : A) → E ts x → (rest : List T) → halts stop (ts ++ rest) ≡ false
+  pub follows : (ts : List T) (x : A) → E ts x → (rest : List T) → F (ts ++ rest)
+
+-- An element behind a comma.
+pub data Behind {T A : Type 0} (comma : T) (E : List T → A → Type 0) : List T → A → Type 0 where
+  behind : {ts : List T} {x : A} → E ts x → Behind comma E (comma ∷ ts) x
+
+-- What a chain of signs spells that has so many levels, the tightest first.
+abbrev pub Levels : {T A O : Type 0} → (ℕ → T → Option O) → (O → A → A → A) → (List T → A → ℕ → Type 0) → ℕ → List T → A → ℕ → Type 0
+Levels sign two E zero = E
+Levels sign two E (suc l) = Chained (sign l) two (Levels sign two E l)

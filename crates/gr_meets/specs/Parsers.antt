@@ -113,3 +113,13 @@ chain sign two operand (suc n) x = look sign (go_on (pure x) (λ o. spend x.1 (�
 -- An operand and the signs of this level behind it, with so many signs at most.
 unfoldable pub level : {T A O : Type 0} → (T → Option O) → (O → A → A → A) → (ℕ → Parser T (A × ℕ)) → ℕ → Parser T (A × ℕ)
 level sign two operand b = operand b >>= λ x. chain sign two operand (suc x.1) x
+
+-- So many levels of signs, the tightest first.
+unfoldable pub levels : {T A O : Type 0} → (ℕ → T → Option O) → (O → A → A → A) → (ℕ → Parser T (A × ℕ)) → ℕ → ℕ → Parser T (A × ℕ)
+levels sign two operand zero b = operand b
+levels sign two operand (suc l) b = level (sign l) two (levels sign two operand l) b
+
+-- The same from a first operand on that was read already.
+unfoldable pub onward : {T A O : Type 0} → (ℕ → T → Option O) → (O → A → A → A) → (ℕ → Parser T (A × ℕ)) → ℕ → A × ℕ → Parser T (A × ℕ)
+onward sign two operand zero x = pure x
+onward sign two operand (suc l) x = onward sign two operand l x >>= λ y. chain (sign l) two (levels sign two operand l) (suc y.1) y
