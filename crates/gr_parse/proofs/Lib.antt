@@ -1,2 +1,4 @@
 pub mod Tests
 pub mod Exprs
+pub mod Complete
+pub mod Calls
