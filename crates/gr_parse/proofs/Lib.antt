@@ -2,3 +2,4 @@ pub mod Tests
 pub mod Exprs
 pub mod Complete
 pub mod Calls
+pub mod CallsComplete
