@@ -1,11 +1,11 @@
 -- Chains of binary signs: what was read is spelled so, what is spelled is read, and enough turns are enough.
-use Rattle.std.proofs.Common.{◌≡◌, ℕ, zero, suc, ◌+◌, ◌-◌, ◌<◌, ◌≤◌, Bool, true, false, not, cond, List, [], ◌∷◌, ◌++◌, length, Option, Some, None, Result, Ok, Err, refl, sym, ap, subst, ◌∙◌, append_assoc, arith}
+use Rattle.std.proofs.Common.{◌≡◌, ℕ, zero, suc, ◌+◌, ◌-◌, ◌<◌, ◌≤◌, List, [], ◌∷◌, ◌++◌, length, Option, Some, None, Ok, Err, refl, sym, ap, subst, ◌∙◌, append_assoc, arith}
 use Rattle.std.proofs.lemmas.List.{append-nil, length-append}
-use Rattle.gr_meets.specs.Parsers.{Outcome, Parser, and_then, ◌>>=◌, ◌>>◌, pure, skip, refuse, peek, next, look, spend, go_on, chain, level}
-use Rattle.gr_meets.specs.Languages.{Alike, Read, Meets, Completes, Agree, Shortens}
+use Rattle.gr_meets.specs.Parsers.{Outcome, Parser, and_then, ◌>>=◌, ◌>>◌, pure, skip, peek, next, spend, go_on, chain, level}
+use Rattle.gr_meets.specs.Languages.{Read, Meets, Completes, Agree, Shortens}
 use Rattle.gr_meets.specs.Lists.{Chained, Spends}
 use Rattle.gr_meets.proofs.Meets.{weaken, meets_pure, read_refuse, branch, peek-alike, Means, peek_means, skip_then, bind_also, took}
-use Rattle.gr_meets.proofs.Agrees.{agree_bind, agree_self, skip_same}
+use Rattle.gr_meets.proofs.Agrees.{agree_bind, skip_same}
 
 -- ---- one turn
 

@@ -1,13 +1,14 @@
 -- Levels of binary signs, one above the other, and what goes on from a first operand that was read already.
-use Rattle.std.proofs.Common.{◌≡◌, ℕ, zero, suc, ◌+◌, ◌-◌, ◌<◌, ◌≤◌, Bool, true, false, not, cond, List, [], ◌∷◌, ◌++◌, length, Option, Some, None, Result, Ok, Err, refl, sym, ap, subst, ◌∙◌, append_assoc, arith}
-use Rattle.std.proofs.lemmas.List.{append-nil, length-append}
-use Rattle.gr_meets.specs.Parsers.{Outcome, Parser, and_then, ◌>>=◌, ◌>>◌, pure, peek, chain, level, levels, onward}
-use Rattle.gr_meets.specs.Languages.{Meets, Completes, Agree, Shortens}
+use Rattle.std.proofs.Common.{◌≡◌, ℕ, zero, suc, ◌<◌, Bool, true, false, cond, List, [], ◌∷◌, ◌++◌, Option, Some, None, Ok, Err, refl, sym, ap, subst, ◌∙◌, append_assoc, arith, eqb}
+use Rattle.std.proofs.lemmas.List.{append-nil}
+use Rattle.std.proofs.lemmas.Bool.{eqb-true}
+use Rattle.gr_meets.specs.Parsers.{of_level, sign_of, Outcome, Parser, and_then, ◌>>=◌, pure, peek, chain, level, levels, onward}
+use Rattle.gr_meets.specs.Languages.{Meets, Completes, Agree}
 use Rattle.gr_meets.specs.Lists.{Chained, Spends, Levels, Loose, Onward}
 use Rattle.gr_meets.proofs.Meets.{weaken, meets_pure, bind_also}
 use Rattle.gr_meets.proofs.Completes.{completes_weaken}
 use Rattle.gr_meets.proofs.Agrees.{agree_bind, shortens}
-use Rattle.gr_meets.proofs.Chains.{After, level_also, level_meets, level_completes, level_agree, chain_all, chain_agree}
+use Rattle.gr_meets.proofs.Chains.{After, level_meets, level_completes, level_agree, chain_all, chain_agree}
 
 module _ {T A O : Type 0} (sign : ℕ → T → Option O) (two : O → A → A → A) (operand : ℕ → Parser T (A × ℕ)) where
   module _ (E : List T → A → ℕ → Type 0) (reads : (b : ℕ) → Meets (operand b) (Spends E b) (Spends E b)) where
@@ -79,3 +80,38 @@ module _ {T A O : Type 0} (n m : ℕ) (sign : ℕ → T → Option O) (two : O �
   onward_agree zero x = record { same = λ ts h k. refl }
   onward_agree (suc l) x = agree_bind (onward_agree l x) (shortens (onward_meets sign two p E reads l 0 x))
       (λ y. chain_agree n m (sign l) two (levels sign two p l) (levels sign two q l) (levels_agree l) (λ d. shortens (levels_meets sign two p E reads l d)) (suc y.1) y)
+
+-- ---- how a chain begins
+
+module _ {T A O : Type 0} (sign : T → Option O) (two : O → A → A → A) (E : List T → A → ℕ → Type 0) (G : List T → Type 0) (first : (ts : List T) (x : A) (n : ℕ) → E ts x n → (rest : List T) → G (ts ++ rest)) where
+  -- It begins as an operand does.
+  pub chained_first : {ts : List T} {x : A} {n : ℕ} → Chained sign two E ts x n → (rest : List T) → G (ts ++ rest)
+  chained_first (Chained.one {ts} {x} {n} h) rest = first ts x n h rest
+  chained_first (Chained.pair {a} {b} t p q r) rest = subst G (sym (append_assoc a (t ∷ b) rest)) (chained_first p ((t ∷ b) ++ rest))
+
+module _ {T A O : Type 0} (sign : ℕ → T → Option O) (two : O → A → A → A) (E : List T → A → ℕ → Type 0) (G : List T → Type 0) (first : (ts : List T) (x : A) (n : ℕ) → E ts x n → (rest : List T) → G (ts ++ rest)) where
+  pub levels_first : (l : ℕ) (ts : List T) (x : A) (n : ℕ) → Levels sign two E l ts x n → (rest : List T) → G (ts ++ rest)
+  levels_first zero ts x n h rest = first ts x n h rest
+  levels_first (suc l) ts x n h rest = chained_first (sign l) two (Levels sign two E l) G (levels_first l) h rest
+
+-- ---- a table of signs
+
+module _ {O : Type 0} where
+  test_is : (l : ℕ) (q : O) (m : ℕ) (o : O) (v : Bool) → eqb m l ≡ v → cond v (Some q) None ≡ Some o → ◌≡◌ {A = Option (O × ℕ)} (Some (q, m)) (Some (o, l))
+  test_is l q m o true e h = let same : m ≡ l = eqb-true m l e in cc
+  test_is l q m o false e h = absurd cc
+
+  -- What a level shows is in the table at this level.
+  pub of_level_is : (l : ℕ) (q : Option (O × ℕ)) (o : O) → of_level l q ≡ Some o → q ≡ Some (o, l)
+  of_level_is l None o h = absurd cc
+  of_level_is l (Some p) o h = test_is l p.0 p.1 o (eqb p.1 l) refl h
+
+  pub of_level_own : (l : ℕ) (o : O) → of_level l (Some (o, l)) ≡ Some o
+  of_level_own l o = grind arith
+
+  pub of_level_other : (i l : ℕ) (o : O) → i < l → of_level i (Some (o, l)) ≡ None
+  of_level_other i l o h = grind arith
+
+-- A sign is of one level.
+pub signs_apart : {T O : Type 0} (binds : T → Option (O × ℕ)) (i l : ℕ) (t : T) (o : O) → sign_of binds l t ≡ Some o → i < l → sign_of binds i t ≡ None
+signs_apart binds i l t o h k = ap (of_level i) (of_level_is l (binds t) o h) ∙ of_level_other i l o k

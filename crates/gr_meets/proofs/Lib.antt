@@ -5,3 +5,5 @@ pub mod Runs
 pub mod Commas
 pub mod Chains
 pub mod Levels
+pub mod FirstFaults
+pub mod Examples
