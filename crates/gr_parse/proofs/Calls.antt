@@ -1,20 +1,19 @@
 -- Names, numbers, arguments and calls: what was read is spelled so, and what was refused goes on until there.
-use Rattle.std.proofs.Common.{◌≡◌, ℕ, zero, suc, ◌<◌, Bool, true, false, List, [], ◌∷◌, ◌++◌, length, Option, Some, None, Ok, Err, refl, sym, ap, subst, ◌∙◌, append_assoc, arith}
+use Rattle.std.proofs.Common.{◌≡◌, ℕ, zero, suc, List, [], ◌∷◌, ◌++◌, Option, Some, None, sym, subst}
 use Rattle.std.proofs.lemmas.List.{append-nil}
-use Rattle.gr_meets.specs.Parsers.{Outcome, Parser, and_then, ◌>>=◌, ◌>>◌, pure, skip, expect, look, peek, sees, value, enclosed, separated}
+use Rattle.gr_meets.specs.Parsers.{Parser, ◌>>=◌, ◌>>◌, pure, peek, enclosed, separated}
 use Rattle.gr_meets.specs.Languages.{Read, Meets}
 use Rattle.gr_meets.specs.Lists.{Separated, Enclosed}
 use Rattle.gr_meets.proofs.Meets.{weaken, meets_pure, look_meets, skip_then, expect_then, bind, value_then, value_meets, peek_means}
 use Rattle.gr_meets.proofs.Commas.{separated_meets, enclosed_meets}
 use Rattle.gr_lang.specs.declared.syntax.Name.{Name}
 use Rattle.gr_lang.specs.declared.syntax.Number.{Number}
-use Rattle.gr_lang.specs.declared.syntax.Place.{Place}
 use Rattle.gr_lang.specs.declared.syntax.Expr.{Expr}
 use Rattle.gr_lang.specs.declared.syntax.Expr.TheVariants as tree
 use Rattle.gr_lang.specs.declared.syntax.CallText.{CallText}
 use Rattle.gr_text.specs.declared.token.Sign.TheVariants as signs
-use Rattle.gr_parse.specs.Tok.{Tok, is_sign, is_missing, name_of, number_of, object_of}
-use Rattle.gr_parse.specs.Parsing.{Toks, name, number, semicolon, expr, args, no_room, some_name, reducer, call_of, operation, method, call}
+use Rattle.gr_parse.specs.Tok.{Tok, is_sign, name_of, number_of}
+use Rattle.gr_parse.specs.Parsing.{Toks, name, number, semicolon, expr, args, some_name, reducer, call_of, operation, method, call}
 use Rattle.gr_parse.specs.Grammar.{IsExpr, IsName, IsNumber, IsArgs, IsObject, IsOperation, IsCall}
 use Rattle.gr_parse.proofs.Tests.{sign_test, missing_test, name_is, number_is, object_is}
 use Rattle.gr_parse.proofs.Exprs.{expr_meets, nought, nought_is}
@@ -92,7 +91,7 @@ reducer_read None ts h = (meets_pure {L = IsReducer} {W = IsReducer} IsReducer.n
 reducer_read (Some n) ts h =
     let m = peek_means name_of n ts h in
     skip_then m.token (pure (Some n)) IsReducer IsReducer ts m.heads
-      (meets_pure (subst (λ (u : Tok). IsReducer (u ∷ []) (Some n)) (sym (name_is m.token n m.means)) IsReducer.some))
+    (meets_pure (subst (λ (u : Tok). IsReducer (u ∷ []) (Some n)) (sym (name_is m.token n m.means)) IsReducer.some))
 
 pub reducer_meets : Meets reducer IsReducer IsReducer
 unfolding reducer
@@ -109,10 +108,10 @@ pub operation_meets : (turns d : ℕ) (object : Name) → Meets (operation turns
 unfolding operation
 operation_meets turns d object = let any = some_operation d object in name_then
     (λ op. bind reducer_meets
-      (λ r. bind (args_meets turns d)
-        (λ xs. meets_pure (λ ts h us k. subst (λ (v : Toks). IsOperation d object (Tok.name op ∷ (us ++ v)) (call_of object op r xs)) (sym (append-nil ts)) (called ts xs k h)))
-        (λ ts xs h. ([], call_of object op r xs, λ us k. subst (λ (v : Toks). IsOperation d object (Tok.name op ∷ (us ++ v)) (call_of object op r xs)) (sym (append-nil ts)) (called ts xs k h))))
-      (λ us r k. let a = some_args d in (a.0, call_of object op r [], called a.0 [] k a.1)))
+    (λ r. bind (args_meets turns d)
+    (λ xs. meets_pure (λ ts h us k. subst (λ (v : Toks). IsOperation d object (Tok.name op ∷ (us ++ v)) (call_of object op r xs)) (sym (append-nil ts)) (called ts xs k h)))
+    (λ ts xs h. ([], call_of object op r xs, λ us k. subst (λ (v : Toks). IsOperation d object (Tok.name op ∷ (us ++ v)) (call_of object op r xs)) (sym (append-nil ts)) (called ts xs k h))))
+    (λ us r k. let a = some_args d in (a.0, call_of object op r [], called a.0 [] k a.1)))
     any.0 any.1 any.2
 
 -- A call behind its object.

@@ -1,13 +1,11 @@
 -- Names, numbers, arguments and calls: what is spelled is read, and enough turns are enough.
-use Rattle.std.proofs.Common.{◌≡◌, ℕ, zero, suc, ◌+◌, ◌<◌, ◌≤◌, Bool, true, false, List, [], ◌∷◌, ◌++◌, length, Option, Some, None, Ok, Err, refl, sym, ap, subst, ◌∙◌, append_assoc, arith}
-use Rattle.std.proofs.lemmas.List.{append-nil, length-append}
-use Rattle.gr_meets.specs.Parsers.{Outcome, Parser, and_then, ◌>>=◌, ◌>>◌, pure, skip, next, expect, look, peek, sees, value, enclosed, separated}
-use Rattle.gr_meets.specs.Languages.{Meets, Completes, Agree, Shortens}
+use Rattle.std.proofs.Common.{◌≡◌, ℕ, zero, suc, ◌<◌, false, List, [], ◌∷◌, ◌++◌, length, Some, None, Ok, refl, sym, subst, append_assoc, arith}
+use Rattle.gr_meets.specs.Parsers.{Outcome, Parser, ◌>>=◌, ◌>>◌, pure, next, peek, sees, enclosed, separated}
+use Rattle.gr_meets.specs.Languages.{Completes, Agree, Shortens}
 use Rattle.gr_meets.specs.Lists.{Separated, Enclosed}
 use Rattle.gr_meets.proofs.Completes.{then_reads, expect_reads, look_reads, value_reads, value_is, completes_weaken}
-use Rattle.gr_meets.proofs.Agrees.{agree_self, agree_bind, agree_expect, agree_value, shortens, shortens_value}
+use Rattle.gr_meets.proofs.Agrees.{agree_self, agree_bind, agree_expect, agree_value, shortens}
 use Rattle.gr_meets.proofs.Commas.{separated_meets, separated_completes, enclosed_completes, separated_agree, enclosed_agree}
-use Rattle.gr_meets.proofs.Meets.{weaken}
 use Rattle.gr_lang.specs.declared.syntax.Name.{Name}
 use Rattle.gr_lang.specs.declared.syntax.Number.{Number}
 use Rattle.gr_lang.specs.declared.syntax.Expr.{Expr}
@@ -15,13 +13,13 @@ use Rattle.gr_lang.specs.declared.syntax.Expr.TheVariants as tree
 use Rattle.gr_lang.specs.declared.syntax.CallText.{CallText}
 use Rattle.gr_text.specs.declared.token.Keyword.{Keyword}
 use Rattle.gr_text.specs.declared.token.Sign.TheVariants as signs
-use Rattle.gr_parse.specs.Tok.{Tok, is_sign, is_missing, same_sign, name_of, number_of, object_of, sign_of, operator}
-use Rattle.gr_parse.specs.Parsing.{Toks, name, number, semicolon, expr, args, no_room, some_name, reducer, call_of, operation, method, call}
-use Rattle.gr_parse.specs.Grammar.{IsUnary, IsLevel, IsComparison, IsExpr, IsName, IsNumber, IsArgs, IsObject, IsOperation, IsCall}
+use Rattle.gr_parse.specs.Tok.{Tok, is_sign, same_sign, name_of, number_of, object_of, sign_of, operator}
+use Rattle.gr_parse.specs.Parsing.{Toks, name, number, semicolon, expr, args, some_name, reducer, call_of, operation, method, call}
+use Rattle.gr_parse.specs.Grammar.{IsUnary, IsLevel, IsComparison, IsExpr, IsName, IsNumber, IsArgs, IsOperation, IsCall}
 use Rattle.gr_parse.proofs.Tests.{sign_test, missing_test, object_means}
 use Rattle.gr_parse.proofs.Exprs.{expr_meets, nought, nought_is}
 use Rattle.gr_parse.proofs.Complete.{Any, NoOperator, expr_completes}
-use Rattle.gr_parse.proofs.Calls.{nameless, name_meets, number_meets, exprs_meets, params_list_meets, numbers_meets, args_meets, reducer_meets, operation_meets, call_meets}
+use Rattle.gr_parse.proofs.Calls.{nameless, name_meets, number_meets, args_meets, reducer_meets}
 
 -- ---- what things begin with
 
@@ -181,12 +179,12 @@ operation_read : {d : ℕ} {object : Name} {ts : Toks} {c : CallText} → IsOper
 unfolding operation
 operation_read (IsOperation.plain {d} {object} {op} {ts} {xs} h) n rest few =
     name_reads op (λ op. reducer >>= λ r. args n d >>= λ xs. pure (call_of object op r xs)) (ts ++ rest)
-      (then_reads (λ r. args n d >>= λ xs. pure (call_of object op r xs)) (no_reducer (ts ++ rest) (no_name (args_begin h rest)))
-        (then_reads (λ xs. pure (call_of object op None xs)) (args_read h n rest (omega (arith, few))) refl))
+    (then_reads (λ r. args n d >>= λ xs. pure (call_of object op r xs)) (no_reducer (ts ++ rest) (no_name (args_begin h rest)))
+    (then_reads (λ xs. pure (call_of object op None xs)) (args_read h n rest (omega (arith, few))) refl))
 operation_read (IsOperation.reducing {d} {object} {op} {by} {ts} {xs} h) n rest few =
     name_reads op (λ op. reducer >>= λ r. args n d >>= λ xs. pure (call_of object op r xs)) (Tok.name by ∷ (ts ++ rest))
-      (then_reads (λ r. args n d >>= λ xs. pure (call_of object op r xs)) (reducer_is by (ts ++ rest))
-        (then_reads (λ xs. pure (call_of object op (Some by) xs)) (args_read h n rest (omega (arith, few))) refl))
+    (then_reads (λ r. args n d >>= λ xs. pure (call_of object op r xs)) (reducer_is by (ts ++ rest))
+    (then_reads (λ xs. pure (call_of object op (Some by) xs)) (args_read h n rest (omega (arith, few))) refl))
 
 pub operation_completes : (n d : ℕ) (object : Name) → Completes n (operation n d object) (IsOperation d object) Any
 operation_completes n d object = record { reads = λ ts c h rest f few. operation_read h n rest few }

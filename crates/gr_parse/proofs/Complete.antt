@@ -1,22 +1,20 @@
 -- Expressions: what is spelled is read.
-use Rattle.std.proofs.Common.{◌≡◌, ℕ, zero, suc, ◌+◌, ◌-◌, ◌<◌, ◌≤◌, Bool, true, false, List, [], ◌∷◌, ◌++◌, length, Option, Some, None, Ok, Err, refl, sym, ap, subst, ◌∙◌, append_assoc, arith}
-use Rattle.std.proofs.lemmas.List.{append-nil, length-append}
-use Rattle.gr_meets.specs.Parsers.{Outcome, Parser, and_then, ◌>>=◌, ◌>>◌, pure, skip, next, expect, either, look, peek, sees, value, spend, go_on, levels, onward}
+use Rattle.std.proofs.Common.{◌≡◌, ℕ, zero, suc, ◌+◌, ◌-◌, ◌<◌, false, [], ◌∷◌, ◌++◌, length, Some, None, Ok, Err, refl, sym, ap, subst, ◌∙◌, append_assoc, arith}
+use Rattle.std.proofs.lemmas.List.{length-append}
+use Rattle.gr_meets.specs.Parsers.{Outcome, Parser, and_then, ◌>>=◌, ◌>>◌, pure, skip, next, expect, either, peek, sees, spend, go_on, levels, onward}
 use Rattle.gr_meets.specs.Languages.{Meets, Completes}
-use Rattle.gr_meets.specs.Lists.{Spends, Levels, Loose}
-use Rattle.gr_meets.proofs.Completes.{then_reads, expect_reads, either_first, either_second, look_reads, value_reads, completes_weaken}
+use Rattle.gr_meets.specs.Lists.{Spends, Loose}
+use Rattle.gr_meets.proofs.Completes.{then_reads, expect_reads, either_first, either_second, look_reads, value_reads}
 use Rattle.gr_meets.proofs.Levels.{levels_completes, levels_are}
 use Rattle.gr_lang.specs.declared.syntax.BinOp.{BinOp}
-use Rattle.gr_lang.specs.declared.syntax.Name.{Name}
-use Rattle.gr_lang.specs.declared.syntax.Number.{Number}
 use Rattle.gr_lang.specs.declared.syntax.Expr.{Expr}
 use Rattle.gr_lang.specs.declared.syntax.Expr.TheVariants as tree
 use Rattle.gr_text.specs.declared.token.Sign.{Sign}
 use Rattle.gr_text.specs.declared.token.Sign.TheVariants as signs
-use Rattle.gr_parse.specs.Tok.{Tok, is_sign, is_key, is_missing, same_sign, sign_of, level_of, atom_of, operator}
+use Rattle.gr_parse.specs.Tok.{Tok, is_sign, same_sign, sign_of, level_of, atom_of, operator}
 use Rattle.gr_parse.specs.Parsing.{Toks, Counted, negation, two, atom, comparing, comparison, group, unary, expr, expr_from, loosest, max_signs}
 use Rattle.gr_parse.specs.Grammar.{IsUnary, IsLevel, IsComparison, IsExpr}
-use Rattle.gr_parse.proofs.Tests.{sign_test, operator_is, operator_own, operator_other, IsOperator}
+use Rattle.gr_parse.proofs.Tests.{sign_test, operator_is, operator_own, operator_other}
 use Rattle.gr_parse.proofs.Exprs.{to_levels, unary_meets}
 
 -- ---- what may follow
@@ -66,7 +64,7 @@ module _ (n : ℕ) (u : ℕ → Parser Tok Counted) (d : ℕ) (reads : (b : ℕ)
       let size : length ((a ++ Tok.sign (sign_of o) ∷ e) ++ rest) ≡ length a + suc (length (e ++ rest)) = ap length cut ∙ length-append a (Tok.sign (sign_of o) ∷ (e ++ rest)) in
       ap (comparison u b) cut
       ∙ then_reads (comparing u) (level_reads h b (suc (q + k)) (omega (arith, sum)) (Tok.sign (sign_of o) ∷ (e ++ rest)) (λ i j. operator_other i loosest o at j) (subst (λ (v : Toks). length v < n) cut few))
-          (compare_goes x y (q + k) k o (e ++ rest) rest at (level_reads g (q + k) k refl rest (λ i j. f i (omega (arith, j))) (omega (arith, few, size))))
+      (compare_goes x y (q + k) k o (e ++ rest) rest at (level_reads g (q + k) k refl rest (λ i j. f i (omega (arith, j))) (omega (arith, few, size))))
 
 -- ---- operands
 
@@ -109,15 +107,17 @@ unary_reads (IsUnary.not {d} {n = m} {ts} {x} h) n below b k sum rest few = read
 unary_reads (IsUnary.group {d} {n = m} {ts} {x} h) n below b k sum rest few =
     let cut : (ts ++ Tok.sign signs.RightParen ∷ []) ++ rest ≡ ts ++ Tok.sign signs.RightParen ∷ rest = append_assoc ts (Tok.sign signs.RightParen ∷ []) rest in
     reads_group d b (x, k) ((ts ++ Tok.sign signs.RightParen ∷ []) ++ rest) rest
-      (ap (comparison (unary d) b) cut ∙ comparison_reads n (unary d) d (unary_meets d) (below d refl) h b k sum (Tok.sign signs.RightParen ∷ rest) (paren_none rest) (omega (arith, few, ap length cut)))
+    (ap (comparison (unary d) b) cut ∙ comparison_reads n (unary d) d (unary_meets d) (below d refl) h b k sum (Tok.sign signs.RightParen ∷ rest) (paren_none rest) (omega (arith, few, ap length cut)))
 
 none_below : (n : ℕ) → Below n 0
 none_below n e h = absurd (omega (arith, h))
 
 pub unary_completes : (n d b : ℕ) → Completes n (unary d b) (Spends (IsUnary d) b) Any
 unary_completes n zero b = record { reads = λ ts x h rest f few. unary_reads h.spelled n (none_below n) b x.1 h.sum rest few }
-unary_completes n (suc d) b = record { reads = λ ts x h rest f few. unary_reads h.spelled n
-    (λ e g. let same : d ≡ e = omega (arith, g) in subst (λ (q : ℕ). (b : ℕ) → Completes n (unary q b) (Spends (IsUnary q) b) Any) same (unary_completes n d)) b x.1 h.sum rest few }
+unary_completes n (suc d) b = record {
+  reads = λ ts x h rest f few. unary_reads h.spelled n
+      (λ e g. let same : d ≡ e = omega (arith, g) in subst (λ (q : ℕ). (b : ℕ) → Completes n (unary q b) (Spends (IsUnary q) b) Any) same (unary_completes n d)) b x.1 h.sum rest few;
+}
 
 -- ---- expressions
 

@@ -1,19 +1,18 @@
 -- Expressions: what was read is spelled so, and what was refused goes on until there.
-use Rattle.std.proofs.Common.{◌≡◌, ℕ, zero, suc, ◌+◌, ◌<◌, ◌≤◌, Bool, true, false, List, [], ◌∷◌, ◌++◌, length, Option, Some, None, Ok, Err, refl, sym, ap, subst, ◌∙◌, append_assoc, arith}
+use Rattle.std.proofs.Common.{◌≡◌, ℕ, zero, suc, ◌+◌, ◌≤◌, [], ◌∷◌, ◌++◌, Option, Some, None, Ok, refl, sym, subst, arith}
 use Rattle.std.proofs.lemmas.List.{append-nil}
-use Rattle.gr_meets.specs.Parsers.{Outcome, Parser, and_then, ◌>>=◌, ◌>>◌, pure, skip, refuse, expect, either, look, peek, value, spend, go_on, levels, onward}
+use Rattle.gr_meets.specs.Parsers.{Parser, ◌>>=◌, ◌>>◌, pure, skip, peek, spend, go_on, levels}
 use Rattle.gr_meets.specs.Languages.{Read, Meets}
 use Rattle.gr_meets.specs.Lists.{Chained, Spends, Levels, Onward}
 use Rattle.gr_meets.proofs.Meets.{weaken, meets_pure, read_refuse, look_meets, skip_then, expect_then, either_meets, bind, value_then, peek_means}
 use Rattle.gr_meets.proofs.Levels.{levels_meets, onward_meets}
+use Rattle.gr_meets.proofs.Chains.{spends_less}
 use Rattle.gr_lang.specs.declared.syntax.BinOp.{BinOp}
-use Rattle.gr_lang.specs.declared.syntax.Name.{Name}
 use Rattle.gr_lang.specs.declared.syntax.Number.{Number}
-use Rattle.gr_lang.specs.declared.syntax.Place.{Place}
 use Rattle.gr_lang.specs.declared.syntax.Expr.{Expr}
 use Rattle.gr_lang.specs.declared.syntax.Expr.TheVariants as tree
 use Rattle.gr_text.specs.declared.token.Sign.TheVariants as signs
-use Rattle.gr_parse.specs.Tok.{Tok, is_sign, sign_of, level_of, atom_of, operator}
+use Rattle.gr_parse.specs.Tok.{Tok, sign_of, atom_of, operator}
 use Rattle.gr_parse.specs.Parsing.{Toks, Counted, negation, two, atom, comparing, comparison, group, unary, expr, expr_from, loosest, max_signs}
 use Rattle.gr_parse.specs.Grammar.{IsUnary, IsLevel, IsComparison, IsExpr}
 use Rattle.gr_parse.proofs.Tests.{sign_test, operator_is, operator_own, IsOperator}
@@ -56,7 +55,7 @@ spends_compared : (d total b : ℕ) (a c : Toks) (x : Expr) (y : Counted) (o : B
 spends_compared d total b a c x y o t f i g =
     let all : Spends (IsComparison d) total (a ++ Tok.sign (sign_of o) ∷ c) (tree.Two o x y.0, y.1) = record { signs = suc (f.signs + g.signs); spelled = IsComparison.compared o i.at f.spelled g.spelled; sum = omega (arith, f.sum, g.sum) } in
     subst (λ (v : Toks). Spends (IsComparison d) total (a ++ t ∷ v) (tree.Two o x y.0, y.1)) (sym (append-nil c))
-      (subst (λ (v : Tok). Spends (IsComparison d) total (a ++ v ∷ c) (tree.Two o x y.0, y.1)) (sym i.is) all)
+    (subst (λ (v : Tok). Spends (IsComparison d) total (a ++ v ∷ c) (tree.Two o x y.0, y.1)) (sym i.is) all)
 
 module _ (u : ℕ → Parser Tok Counted) (d : ℕ) (reads : (b : ℕ) → Meets (u b) (Spends (IsUnary d) b) (Spends (IsUnary d) b)) where
   pub levels_spend : (l b : ℕ) → Meets (levels operator two u l b) (Spends (IsLevel d l) b) (Spends (IsLevel d l) b)
@@ -78,9 +77,9 @@ module _ (u : ℕ → Parser Tok Counted) (d : ℕ) (reads : (b : ℕ) → Meets
         let i = operator_is loosest o m.token m.means in
         let K : Toks → Counted → Type 0 = λ c z. Compared d total (x, suc b) (m.token ∷ c) z in
         skip_then m.token (second (x, suc b) o b) (Compared d total (x, suc b)) (Compared d total (x, suc b)) ts m.heads
-          (bind {K = K} {W = K} (levels_spend loosest b)
-            (λ y. meets_pure (λ c g a f. spends_compared d total b a c x y o m.token f i g))
-            (λ c y g. ([], (tree.Two o x y.0, y.1), λ a f. spends_compared d total b a c x y o m.token f i g)))
+        (bind {K = K} {W = K} (levels_spend loosest b)
+        (λ y. meets_pure (λ c g a f. spends_compared d total b a c x y o m.token f i g))
+        (λ c y g. ([], (tree.Two o x y.0, y.1), λ a f. spends_compared d total b a c x y o m.token f i g)))
 
     pub comparing_meets : (x : Counted) → Meets (comparing u x) (Compared d total x) (Compared d total x)
     unfolding comparing compare_way second
@@ -124,12 +123,12 @@ unfolding unary group
 unary_meets zero b = atom_meets 0 b
 unary_meets (suc d) b =
     either_meets (sign_test signs.Bang)
-      (bind (unary_meets d b) (λ x. meets_pure (λ a h. negated d b a x h)) (λ a x h. ([], negation x, negated d b a x h)))
-      (either_meets (sign_test signs.LeftParen)
-        (bind (comparison_meets (unary d) d (unary_meets d) b)
-          (λ x. expect_then (sign_test signs.RightParen) (meets_pure (λ a h. grouped d b a x h)) [] x (λ a h. grouped d b a x h))
-          (λ a x h. (Tok.sign signs.RightParen ∷ [], x, grouped d b a x h)))
-        (atom_meets (suc d) b))
+    (bind (unary_meets d b) (λ x. meets_pure (λ a h. negated d b a x h)) (λ a x h. ([], negation x, negated d b a x h)))
+    (either_meets (sign_test signs.LeftParen)
+    (bind (comparison_meets (unary d) d (unary_meets d) b)
+    (λ x. expect_then (sign_test signs.RightParen) (meets_pure (λ a h. grouped d b a x h)) [] x (λ a h. grouped d b a x h))
+    (λ a x h. (Tok.sign signs.RightParen ∷ [], x, grouped d b a x h)))
+    (atom_meets (suc d) b))
 
 -- ---- expressions
 
@@ -155,6 +154,12 @@ module _ (d : ℕ) (t : Tok) (x : Expr) (h : atom_of t ≡ Some x) where
   unfolding expr_from
   expr_from_meets = bind (onward_meets operator two (unary d) (IsUnary d) (unary_meets d) loosest max_signs (x, max_signs))
       (λ y. bind (comparing_meets (unary d) d (unary_meets d) max_signs y)
-        (λ z. meets_pure (λ c k a g. from_first a (c ++ []) y z g (subst (λ (v : Toks). Compared d max_signs y v z) (sym (append-nil c)) k)))
-        (λ c z k. ([], z.0, λ a g. from_first a (c ++ []) y z g (subst (λ (v : Toks). Compared d max_signs y v z) (sym (append-nil c)) k))))
+      (λ z. meets_pure (λ c k a g. from_first a (c ++ []) y z g (subst (λ (v : Toks). Compared d max_signs y v z) (sym (append-nil c)) k)))
+      (λ c z k. ([], z.0, λ a g. from_first a (c ++ []) y z g (subst (λ (v : Toks). Compared d max_signs y v z) (sym (append-nil c)) k))))
       (λ a y g. ([], y.0, from_first a [] y y g (alone d max_signs y)))
+
+-- ---- measures
+
+-- No more signs may come behind a level than before it.
+pub levels_less : (d l b : ℕ) (ts : Toks) (x : Counted) (rest : Toks) → levels operator two (unary d) l b ts ≡ Ok (x, rest) → x.1 ≤ b
+levels_less d l b ts x rest h = spends_less (levels_spend (unary d) d (unary_meets d) l b) ts x rest h
