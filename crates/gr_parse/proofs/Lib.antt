@@ -1,0 +1,5 @@
+pub mod Tests
+pub mod Exprs
+pub mod Complete
+pub mod Calls
+pub mod CallsComplete

@@ -1,0 +1,3 @@
+pub mod Tok
+pub mod Parsing
+pub mod Grammar
