@@ -1,6 +1,6 @@
 -- The answer due: the refusal and the text for a command, what the text reads as, and the history of its run; and what comes of it.
 use Rattle.std.specs.Prelude.{◌≡◌, ℕ, ◌<◌, Bool, true, false, if◌then◌else◌, List, [], ◌∷◌, ◌++◌, length, take, Option, None, Some, is_some}
-use Rattle.std.specs.Io.KnownBytes.{Keeps, Appends}
+use Rattle.std.specs.Io.KnownBytes.{Appends}
 use Rattle.gr_lang.specs.declared.syntax.Program.{Program}
 use Rattle.gr_lang.specs.declared.syntax.Place.{Place}
 use Rattle.gr_lang.specs.declared.refusal.Fault.{Fault}
@@ -81,12 +81,10 @@ abbrev pub due_read : Command → Reading → Option WorldEnd → Due
 due_read command (refused f) world = due_refused f
 due_read command (accepted p) world = due_accepted command p world
 
--- What came of the answer due: it was given and its text written; or memory or the source failed and nothing was written; or the sink failed and got only the front of the text.
-abbrev pub Comes : Due → Option (List ℕ) → Option (List ℕ) → Refusal → Option WorldEnd → Type 0
-Comes d before now Memory world = Keeps before now × (world ≡ None)
-Comes d before now ReadFault world = Keeps before now × (world ≡ None)
-Comes d before now (WriteFault written) world = (written < length d.text) × Appends before now (take written d.text) × (is_some world ≡ d.ran)
-Comes d before now refusal world = (refusal ≡ d.refusal) × Appends before now d.text × (is_some world ≡ d.ran)
+-- What came of an answer: it was given and its text written, or the sink failed and got only the front of the text.
+abbrev pub Came : Due → Option (List ℕ) → Option (List ℕ) → Refusal → Option WorldEnd → Type 0
+Came d before now (WriteFault written) world = (written < length d.text) × Appends before now (take written d.text) × (is_some world ≡ d.ran)
+Came d before now refusal world = (refusal ≡ d.refusal) × Appends before now d.text × (is_some world ≡ d.ran)
 
 -- An answer that can be written.
 abbrev pub IsWritten : Refusal → Type 0
@@ -94,9 +92,3 @@ IsWritten Memory = ⊥
 IsWritten ReadFault = ⊥
 IsWritten (WriteFault written) = ⊥
 IsWritten refusal = Unit {0}
-
--- The sink was called, if there was a text.
-abbrev pub IsDelivered : Refusal → Type 0
-IsDelivered Memory = ⊥
-IsDelivered ReadFault = ⊥
-IsDelivered refusal = Unit {0}

@@ -3,3 +3,5 @@ pub mod Built
 pub mod Alone
 pub mod Texts
 pub mod Due
+pub mod Readings
+pub mod Views

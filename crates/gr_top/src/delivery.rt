@@ -1,7 +1,7 @@
 //! The one place that writes.
 ghost use Rattle.std.specs.Prelude.{◌≡◌, ◌≢◌, ℕ, ◌≤◌, is_some, string_bytes};
 ghost use Rattle.gr_io.specs.Faults.{Rose};
-ghost use Rattle.gr_top.specs.Due.{status_of, Comes, IsWritten};
+ghost use Rattle.gr_top.specs.Due.{status_of, Came, IsWritten};
 
 use crate::answer::{Answer, Refusal, RunEnd};
 use gr_io::{Sink, write_all};
@@ -25,7 +25,7 @@ pub(crate) fn status(refusal: Refusal) -> u8
 /// Writes an answer. It takes no memory.
 pub(crate) fn deliver<K: Sink>(sink: &mut K, answer: Answer) -> RunEnd
     requires { IsWritten answer.refusal }
-    ensures comes { Comes (record { refusal = answer.refusal; text = string_bytes answer.text; ran = is_some answer.world }) (K.got sink.old) (K.got sink.new) result.refusal result.world }
+    ensures came { Came (record { refusal = answer.refusal; text = string_bytes answer.text; ran = is_some answer.world }) (K.got sink.old) (K.got sink.new) result.refusal result.world }
     ensures not_read_fault { result.refusal ≢ Refusal.ReadFault }
     ensures not_memory { result.refusal ≢ Refusal.Memory }
     ensures status { result.status ≡ status_of result.refusal }

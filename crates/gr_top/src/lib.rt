@@ -3,9 +3,13 @@
 
 mod answer;
 mod built;
+mod call;
 mod command;
 mod delivery;
+mod engine;
 mod probe;
+
 mod texts;
 
+pub use call::top;
 pub use answer::{Refusal, RunEnd, WorldEnd};
