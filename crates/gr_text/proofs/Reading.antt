@@ -1,21 +1,19 @@
 -- How far a text is read: the invariant of the tokenizer's loop, and its steps.
-use Rattle.std.proofs.Common.{◌≡◌, ◌≢◌, ℕ, zero, suc, ◌+◌, ◌^◌, ◌≤◌, ◌<◌, Bool, true, false, cond, eqb, List, [], ◌∷◌, ◌++◌, length, take, drop, Result, Ok, Err, refl, sym, ap, subst, ◌∙◌, append_assoc, arith}
+use Rattle.std.proofs.Common.{◌≡◌, ℕ, ◌+◌, ◌≤◌, ◌<◌, Bool, true, false, cond, eqb, List, [], ◌∷◌, ◌++◌, length, take, drop, Ok, Err, refl, sym, ap, subst, ◌∙◌, append_assoc, arith}
 use Rattle.std.proofs.lemmas.List.{length-take, length-drop, drop-drop}
 use Rattle.std.proofs.Math.Seq.{take-add}
 use Rattle.gr_lang.specs.declared.syntax.Place.{Place}
-use Rattle.gr_text.specs.declared.fault.TextError.{TextError}
 use Rattle.gr_text.specs.declared.fault.TextError.TheVariants as faults
-use Rattle.gr_text.specs.declared.front.Front.{Front}
 use Rattle.gr_text.specs.declared.front.Front.TheVariants as fronts
 use Rattle.gr_text.specs.declared.token.Token.{Token}
 use Rattle.gr_text.specs.declared.token.TokenKind.{TokenKind}
 use Rattle.gr_text.specs.declared.token.TokenKind.TheVariants as kinds
 use Rattle.gr_text.specs.Front.{IsFront}
 use Rattle.gr_text.specs.Places.{place_of, after_bytes, after_byte, first_place}
-use Rattle.gr_text.specs.Text.{Text, Outcome, Reads, IsLongest, with_front, token_at, blank_len}
+use Rattle.gr_text.specs.Text.{Text, Outcome, ReadsFrom, with_front, token_at}
 use Rattle.gr_text.proofs.Found.{blank_fits}
 use Rattle.gr_text.proofs.Longest.{some_token}
-use Rattle.gr_text.proofs.Steps.{Then, Onward, forward, backward}
+use Rattle.gr_text.proofs.Steps.{forward, backward}
 
 -- ---- places
 
@@ -62,22 +60,22 @@ after-with_front ts t (Err e) = refl
 
 pub record Tail (whole : Text) (at : ℕ) (rest : Text) (found : List Token) (r : Outcome) : Type 0 where
   pub tail : Outcome
-  pub reads : Reads whole at rest tail
+  pub reads : ReadsFrom whole at rest tail
   pub joins : r ≡ after found tail
 
 pub record Reached (whole : Text) (at : ℕ) (p : Place) (rest : Text) (found : List Token) : Type 0 where
   pub size : at + length rest ≡ length whole
   pub here : rest ≡ drop at whole
   pub place : p ≡ place_of whole at
-  pub reads : (r : Outcome) → Reads whole at rest r → Reads whole 0 whole (after found r)
-  pub only : (r : Outcome) → Reads whole 0 whole r → Tail whole at rest found r
+  pub reads : (r : Outcome) → ReadsFrom whole at rest r → ReadsFrom whole 0 whole (after found r)
+  pub only : (r : Outcome) → ReadsFrom whole 0 whole r → Tail whole at rest found r
 
 pub start : (whole : Text) → Reached whole 0 (record { line = 1; column = 1 }) whole []
 start whole = record {
   size = omega arith;
   here = refl;
   place = refl;
-  reads = λ r h. subst (λ (x : Outcome). Reads whole 0 whole x) (sym (after_nil r)) h;
+  reads = λ r h. subst (λ (x : Outcome). ReadsFrom whole 0 whole x) (sym (after_nil r)) h;
   only = λ r h. record { tail = r; reads = h; joins = sym (after_nil r) };
 }
 
@@ -94,26 +92,26 @@ blank_step whole at len p q rest found h f e = record {
 }
 
 pub token_step : (whole : Text) (kind : TokenKind) (at len : ℕ) (p q : Place) (rest : Text) (found : List Token) → Reached whole at p rest found → IsFront (fronts.Token kind len) rest → q ≡ after_bytes p (take len rest)
-  → Reached whole (at + len) q (drop len rest) (found ++ record { kind = kind; from = at; to = at + len; at = p } ∷ [])
+    → Reached whole (at + len) q (drop len rest) (found ++ record { kind = kind; from = at; to = at + len; at = p } ∷ [])
 token_step whole kind at len p q rest found h f e = subst (λ (x : Place). Reached whole (at + len) q (drop len rest) (found ++ record { kind = kind; from = at; to = at + len; at = x } ∷ [])) (sym h.place) (record {
   size = omega (arith, length-drop len rest, f.0.within, h.size);
   here = ap (drop len) h.here ∙ drop-drop len at whole;
   place = step_place whole rest at len p q h.place h.here e;
-  reads = λ r k. subst (λ (x : Outcome). Reads whole 0 whole x) (sym (after-with_front found (token_at whole kind at len) r)) (h.reads (with_front (token_at whole kind at len) r) (forward (fronts.Token kind len) whole at rest (with_front (token_at whole kind at len) r) f (record { tail = r; reads = k; joins = refl })));
+  reads = λ r k. subst (λ (x : Outcome). ReadsFrom whole 0 whole x) (sym (after-with_front found (token_at whole kind at len) r)) (h.reads (with_front (token_at whole kind at len) r) (forward (fronts.Token kind len) whole at rest (with_front (token_at whole kind at len) r) f (record { tail = r; reads = k; joins = refl })));
   only = λ r k.
-    let t = h.only r k in
-    let next = backward (fronts.Token kind len) whole at rest t.tail (omega (arith, f.0.within, some_token kind len rest f.0.token)) f t.reads in
-    record { tail = next.tail; reads = next.reads; joins = t.joins ∙ ap (after found) next.joins ∙ sym (after-with_front found (token_at whole kind at len) next.tail) };
+      let t = h.only r k in
+      let next = backward (fronts.Token kind len) whole at rest t.tail (omega (arith, f.0.within, some_token kind len rest f.0.token)) f t.reads in
+      record { tail = next.tail; reads = next.reads; joins = t.joins ∙ ap (after found) next.joins ∙ sym (after-with_front found (token_at whole kind at len) next.tail) };
 })
 
 -- ---- the end of reading
 
 -- The text reads as this, and as nothing else.
 pub record Final (whole : Text) (x : Outcome) : Type 0 where
-  pub reads : Reads whole 0 whole x
-  pub only : (r : Outcome) → Reads whole 0 whole r → r ≡ x
+  pub reads : ReadsFrom whole 0 whole x
+  pub only : (r : Outcome) → ReadsFrom whole 0 whole r → r ≡ x
 
-final : (whole : Text) (at : ℕ) (p : Place) (rest : Text) (found : List Token) (x : Outcome) → Reached whole at p rest found → Reads whole at rest x → ((r : Outcome) → Reads whole at rest r → r ≡ x) → Final whole (after found x)
+final : (whole : Text) (at : ℕ) (p : Place) (rest : Text) (found : List Token) (x : Outcome) → Reached whole at p rest found → ReadsFrom whole at rest x → ((r : Outcome) → ReadsFrom whole at rest r → r ≡ x) → Final whole (after found x)
 final whole at p rest found x h reads only = record {
   reads = h.reads x reads;
   only = λ r k. let t = h.only r k in t.joins ∙ ap (after found) (only t.tail t.reads);
@@ -128,23 +126,23 @@ long_end whole at p rest found h some f = final whole at p rest found (Err (faul
 pub bad_end : (whole : Text) (at : ℕ) (p : Place) (rest : Text) (found : List Token) → Reached whole at p rest found → 0 < length rest → IsFront fronts.Bad rest → Final whole (Err (faults.BadByte at))
 bad_end whole at p rest found h some f = final whole at p rest found (Err (faults.BadByte at)) h (forward fronts.Bad whole at rest (Err (faults.BadByte at)) f refl) (λ r k. backward fronts.Bad whole at rest r some f k)
 
-ends_reads : (whole : Text) (at : ℕ) (text : Text) → length text ≡ 0 → Reads whole at text (Ok (token_at whole kinds.End at 0 ∷ []))
-ends_reads whole at [] e = Reads.ends
+ends_reads : (whole : Text) (at : ℕ) (text : Text) → length text ≡ 0 → ReadsFrom whole at text (Ok (token_at whole kinds.End at 0 ∷ []))
+ends_reads whole at [] e = ReadsFrom.ends
 ends_reads whole at (b ∷ text) e = absurd (omega arith)
 
-ends_only : (whole : Text) (at : ℕ) (text : Text) (r : Outcome) → length text ≡ 0 → Reads whole at text r → r ≡ Ok (token_at whole kinds.End at 0 ∷ [])
-ends_only whole at _ r e Reads.ends = refl
-ends_only whole at text r e (Reads.blank some h) = absurd (omega (arith, blank_fits text))
-ends_only whole at text _ e (Reads.token {len = l} {kind = k} t fits h) = absurd (omega (arith, t.within, some_token k l text t.token))
-ends_only whole at text _ e (Reads.too_wide {n = n} {len = l} t wide) = absurd (omega (arith, t.within, some_token (kinds.Number n) l text t.token))
-ends_only whole at text _ e (Reads.too_long {len = l} t long) = absurd (omega (arith, t.within, some_token kinds.Name l text t.token))
-ends_only whole at text _ e (Reads.bad some dark none) = absurd (omega arith)
+ends_only : (whole : Text) (at : ℕ) (text : Text) (r : Outcome) → length text ≡ 0 → ReadsFrom whole at text r → r ≡ Ok (token_at whole kinds.End at 0 ∷ [])
+ends_only whole at _ r e ReadsFrom.ends = refl
+ends_only whole at text r e (ReadsFrom.blank some h) = absurd (omega (arith, blank_fits text))
+ends_only whole at text _ e (ReadsFrom.token {len = l} {kind = k} t fits h) = absurd (omega (arith, t.within, some_token k l text t.token))
+ends_only whole at text _ e (ReadsFrom.too_wide {n = n} {len = l} t wide) = absurd (omega (arith, t.within, some_token (kinds.Number n) l text t.token))
+ends_only whole at text _ e (ReadsFrom.too_long {len = l} t long) = absurd (omega (arith, t.within, some_token kinds.Name l text t.token))
+ends_only whole at text _ e (ReadsFrom.bad some dark none) = absurd (omega arith)
 
 pub the_end : (whole : Text) (at : ℕ) (p : Place) (rest : Text) (found : List Token) → Reached whole at p rest found → length rest ≡ 0 → Final whole (Ok (found ++ record { kind = kinds.End; from = at; to = at; at = p } ∷ []))
 the_end whole at p rest found h e =
     subst (λ (n : ℕ). Final whole (Ok (found ++ record { kind = kinds.End; from = at; to = n; at = p } ∷ []))) (omega arith)
-      (subst (λ (x : Place). Final whole (Ok (found ++ record { kind = kinds.End; from = at; to = at + 0; at = x } ∷ []))) (sym h.place)
-        (final whole at p rest found (Ok (token_at whole kinds.End at 0 ∷ [])) h (ends_reads whole at rest e) (λ r k. ends_only whole at rest r e k)))
+    (subst (λ (x : Place). Final whole (Ok (found ++ record { kind = kinds.End; from = at; to = at + 0; at = x } ∷ []))) (sym h.place)
+    (final whole at p rest found (Ok (token_at whole kinds.End at 0 ∷ [])) h (ends_reads whole at rest e) (λ r k. ends_only whole at rest r e k)))
 
 pub reached_low : (whole : Text) (at : ℕ) (p : Place) (rest : Text) (found : List Token) → Reached whole at p rest found → Low p (at + 1)
 reached_low whole at p rest found h = subst (λ (x : Place). Low x (at + 1)) (sym h.place) (place_low whole at (omega (arith, h.size)))

@@ -1,5 +1,5 @@
 -- Facts of each sign.
-use Rattle.std.proofs.Common.{◌≡◌, ◌≢◌, ℕ, zero, suc, ◌+◌, ◌<◌, ◌≤◌, Bool, true, false, cond, List, [], ◌∷◌, length, get_or, take, drop, Option, Some, None, refl, sym, ap, subst, ◌∙◌, arith, inl, inr, lit<}
+use Rattle.std.proofs.Common.{◌≡◌, ℕ, zero, suc, ◌<◌, ◌≤◌, Bool, true, false, cond, [], ◌∷◌, length, get_or, take, Option, Some, None, refl, sym, ap, ◌∙◌, arith, inl, inr, lit<}
 use Rattle.std.specs.Prelude.{◌⊎◌, ◌==◌, ◌&&◌, if◌then◌else◌}
 use Rattle.std.proofs.lemmas.List.{length-take}
 use Rattle.std.proofs.lemmas.Bool.{eqb-true}
@@ -228,6 +228,7 @@ no_sign text h r more within e = go text more h within (found_at r more text wit
         empty (inl x) e = let k : [] ≡ x.b ∷ [] = e ∙ x.bytes in cc
         empty (inr x) e = let k : [] ≡ x.a ∷ x.b ∷ [] = e ∙ x.bytes in cc
     take_some r (suc more) text e = omega arith
+
     go : (text : Text) (more : ℕ) → front_sign text ≡ None → more ≤ length text → Found r more text → 0 < more → ⊥
     go [] more h within f some = omega arith
     go (a ∷ []) more h within f some = let one : single_sign a ≡ Some r = f.one within in cc

@@ -1,12 +1,12 @@
 -- What the tokens of a text are, by how the text reads.
-use Rattle.std.proofs.Common.{◌≡◌, ◌≢◌, ℕ, zero, suc, ◌+◌, ◌-◌, ◌≤◌, ◌<◌, Bool, true, false, List, [], ◌∷◌, ◌++◌, length, get_or, take, drop, Result, Ok, Err, refl, sym, ap, subst, ◌∙◌, arith, rules}
-use Rattle.std.specs.Prelude.{All, slice_range, ◌&&◌, ◌||◌, IsAscii}
+use Rattle.std.proofs.Common.{◌≡◌, ◌≢◌, ℕ, zero, suc, ◌+◌, ◌-◌, ◌≤◌, ◌<◌, Bool, true, List, [], ◌∷◌, ◌++◌, length, get_or, take, drop, Ok, Err, refl, sym, ap, subst, ◌∙◌, arith}
+use Rattle.std.specs.Prelude.{All, slice_range, ◌||◌, IsAscii}
 use Rattle.std.proofs.lemmas.List.{length-drop, drop-drop}
 use Rattle.std.proofs.lemmas.Str.Ascii.{IsAscii-from_reads}
 use Rattle.gr_text.specs.declared.token.Token.{Token}
 use Rattle.gr_text.specs.declared.token.TokenKind.{TokenKind}
 use Rattle.gr_text.specs.declared.token.TokenKind.TheVariants as kinds
-use Rattle.gr_text.specs.Text.{Text, Outcome, Reads, IsToken, IsTokenOf, IsLongest, AreTokens, are_rising, are_all, is_letter, is_digit, is_word, with_front, token_at, blank_len}
+use Rattle.gr_text.specs.Text.{Text, Outcome, ReadsFrom, IsToken, IsTokenOf, IsLongest, AreTokens, are_rising, are_all, is_letter, is_digit, is_word, with_front, token_at, blank_len}
 use Rattle.gr_text.proofs.Found.{blank_fits}
 use Rattle.gr_text.proofs.Longest.{some_token}
 use Rattle.gr_text.proofs.Runs.{and_both, all_at}
@@ -92,21 +92,21 @@ front_ok : (t : Token) (tail : Outcome) (ts : List Token) → with_front t tail 
 front_ok t (Ok us) ts e = (us, refl, cc)
 front_ok t (Err x) ts e = absurd cc
 
-from_reads : (whole : Text) (at : ℕ) (text : Text) (r : Outcome) → Reads whole at text r → text ≡ drop at whole → at + length text ≡ length whole → (ts : List Token) → r ≡ Ok ts → From whole at ts
-from_reads whole at _ _ Reads.ends here size ts e = end_from whole at ts (omega (arith, size)) cc
-from_reads whole at text r (Reads.blank some h) here size ts e =
+from_reads : (whole : Text) (at : ℕ) (text : Text) (r : Outcome) → ReadsFrom whole at text r → text ≡ drop at whole → at + length text ≡ length whole → (ts : List Token) → r ≡ Ok ts → From whole at ts
+from_reads whole at _ _ ReadsFrom.ends here size ts e = end_from whole at ts (omega (arith, size)) cc
+from_reads whole at text r (ReadsFrom.blank some h) here size ts e =
     let k = from_reads whole (at + blank_len text) (drop (blank_len text) text) r h (ap (drop (blank_len text)) here ∙ drop-drop (blank_len text) at whole) (omega (arith, size, blank_fits text, length-drop (blank_len text) text)) ts e in
     record { front = k.front; parts = k.parts; no_end = k.no_end; tokens_of = k.tokens_of; rise = rising_from at (at + blank_len text) ts (omega arith) k.rise }
-from_reads whole at text _ (Reads.token {len = len} {kind = kind} {r = tail} t fits h) here size ts e =
+from_reads whole at text _ (ReadsFrom.token {len = len} {kind = kind} {r = tail} t fits h) here size ts e =
     let x = front_ok (token_at whole kind at len) tail ts e in
     let within = t.within in
     more_from whole kind at len text x.0 ts here size t
-      (from_reads whole (at + len) (drop len text) tail h (ap (drop len) here ∙ drop-drop len at whole) (omega (arith, size, length-drop len text)) x.0 x.1) x.2
-from_reads whole at text _ (Reads.too_wide t wide) here size ts e = absurd cc
-from_reads whole at text _ (Reads.too_long t long) here size ts e = absurd cc
-from_reads whole at text _ (Reads.bad some dark none) here size ts e = absurd cc
+    (from_reads whole (at + len) (drop len text) tail h (ap (drop len) here ∙ drop-drop len at whole) (omega (arith, size, length-drop len text)) x.0 x.1) x.2
+from_reads whole at text _ (ReadsFrom.too_wide t wide) here size ts e = absurd cc
+from_reads whole at text _ (ReadsFrom.too_long t long) here size ts e = absurd cc
+from_reads whole at text _ (ReadsFrom.bad some dark none) here size ts e = absurd cc
 
-pub well : (whole : Text) (ts : List Token) → Reads whole 0 whole (Ok ts) → AreTokens whole ts
+pub well : (whole : Text) (ts : List Token) → ReadsFrom whole 0 whole (Ok ts) → AreTokens whole ts
 well whole ts h =
     let k = from_reads whole 0 whole (Ok ts) h refl (omega arith) ts refl in
     record { front = k.front; parts = k.parts; no_end = k.no_end; tokens_of = k.tokens_of; rise = k.rise }

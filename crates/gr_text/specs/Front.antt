@@ -1,8 +1,7 @@
 -- What stands at the front of a text, as the functions of the tokenizer tell it to each other.
-use Rattle.std.specs.Prelude.{◌≡◌, ℕ, ◌<◌, ◌≤◌, ◌^◌, Bool, ◌==◌, ◌&&◌, if◌then◌else◌, List, [], ◌∷◌, length, take, Option, Some, None}
+use Rattle.std.specs.Prelude.{◌≡◌, ℕ, ◌<◌, ◌≤◌, ◌^◌, ◌==◌, ◌&&◌, if◌then◌else◌, [], ◌∷◌, length, Option, Some, None}
 use Rattle.gr_text.specs.declared.front.Front.{Front}
 use Rattle.gr_text.specs.declared.front.Front.TheVariants as fronts
-use Rattle.gr_text.specs.declared.token.TokenKind.{TokenKind}
 use Rattle.gr_text.specs.declared.token.TokenKind.TheVariants as kinds
 use Rattle.gr_text.specs.declared.token.Sign.{Sign}
 use Rattle.gr_text.specs.declared.token.Sign.TheVariants.{LeftParen, RightParen, LeftBrace, RightBrace, LeftBracket, RightBracket, Semicolon, Comma, Dot, DotDot, Assign, EqualEqual, BangEqual, Less, LessEqual, Greater, GreaterEqual, Plus, Minus, Star, Slash, Percent, Ampersand, Bar, Caret, Bang}

@@ -87,22 +87,26 @@ with_front t (Err e) = Err e
 abbrev pub token_at : Text → TokenKind → ℕ → ℕ → Token
 token_at whole kind at len = record { kind = kind; from = at; to = at + len; at = place_of whole at }
 
--- What the rest of a whole text reads as, which begins at this place.
-pub data Reads (whole : Text) : ℕ → Text → Outcome → Type 0 where
-  ends : {at : ℕ} → Reads whole at [] (Ok (token_at whole kinds.End at 0 ∷ []))
-  blank : {at : ℕ} {text : Text} {r : Outcome} → 0 < blank_len text → Reads whole (at + blank_len text) (drop (blank_len text) text) r → Reads whole at text r
-  token : {at len : ℕ} {text : Text} {kind : TokenKind} {r : Outcome} → IsLongest kind len text → Fits kind len → Reads whole (at + len) (drop len text) r
-      → Reads whole at text (with_front (token_at whole kind at len) r)
-  too_wide : {at n len : ℕ} {text : Text} → IsLongest (kinds.Number n) len text → 2 ^ 64 ≤ n → Reads whole at text (Err (faults.NumberTooWide at))
-  too_long : {at len : ℕ} {text : Text} → IsLongest kinds.Name len text → most_name < len → Reads whole at text (Err (faults.NameTooLong at))
-  bad : {at : ℕ} {text : Text} → 0 < length text → blank_len text ≡ 0 → BeginsNoToken text → Reads whole at text (Err (faults.BadByte at))
+-- What the rest of a whole text reads as, which begins at this place: blanks are passed over, each token is the longest at its place, and the first fault ends the text.
+pub data ReadsFrom (whole : Text) : ℕ → Text → Outcome → Type 0 where
+  ends : {at : ℕ} → ReadsFrom whole at [] (Ok (token_at whole kinds.End at 0 ∷ []))
+  blank : {at : ℕ} {text : Text} {r : Outcome} → 0 < blank_len text → ReadsFrom whole (at + blank_len text) (drop (blank_len text) text) r → ReadsFrom whole at text r
+  token : {at len : ℕ} {text : Text} {kind : TokenKind} {r : Outcome} → IsLongest kind len text → Fits kind len → ReadsFrom whole (at + len) (drop len text) r
+      → ReadsFrom whole at text (with_front (token_at whole kind at len) r)
+  too_wide : {at n len : ℕ} {text : Text} → IsLongest (kinds.Number n) len text → 2 ^ 64 ≤ n → ReadsFrom whole at text (Err (faults.NumberTooWide at))
+  too_long : {at len : ℕ} {text : Text} → IsLongest kinds.Name len text → most_name < len → ReadsFrom whole at text (Err (faults.NameTooLong at))
+  bad : {at : ℕ} {text : Text} → 0 < length text → blank_len text ≡ 0 → BeginsNoToken text → ReadsFrom whole at text (Err (faults.BadByte at))
+
+-- What a text reads as: its tokens, each with its span and its place, or its first fault.
+abbrev pub Reads : Text → Outcome → Type 0
+Reads text r = ReadsFrom text 0 text r
 
 -- The text reads as this fault, unless it is only that memory is out.
 abbrev pub IsFaultOf : Text → TextError → Type 0
 IsFaultOf text faults.OutOfMemory = Unit {0}
-IsFaultOf text (faults.BadByte at) = Reads text 0 text (Err (faults.BadByte at))
-IsFaultOf text (faults.NumberTooWide at) = Reads text 0 text (Err (faults.NumberTooWide at))
-IsFaultOf text (faults.NameTooLong at) = Reads text 0 text (Err (faults.NameTooLong at))
+IsFaultOf text (faults.BadByte at) = Reads text (Err (faults.BadByte at))
+IsFaultOf text (faults.NumberTooWide at) = Reads text (Err (faults.NumberTooWide at))
+IsFaultOf text (faults.NameTooLong at) = Reads text (Err (faults.NameTooLong at))
 
 -- ---- what callers rely on
 

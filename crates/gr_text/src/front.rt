@@ -19,29 +19,36 @@ pub enum Front {
     Blank { length: usize },
     /// A token of this many bytes.
     Token { kind: TokenKind, length: usize },
+    /// A number above 2^64 - 1.
     TooWide,
+    /// A name of more than 32 bytes.
     TooLong,
+    /// A byte that begins no token and nothing blank.
     Bad,
 }
 
+/// Whether a name may begin with this byte.
 fn is_letter(b: u8) -> bool
     ensures { result ≡ is_letter b }
 {
     matches!(b, b'a'..=b'z' | b'A'..=b'Z' | b'_')
 }
 
+/// Whether this byte is a decimal digit.
 fn is_digit(b: u8) -> bool
     ensures { result ≡ is_digit b }
 {
     matches!(b, b'0'..=b'9')
 }
 
+/// Whether a name may go on with this byte.
 fn is_word(b: u8) -> bool
     ensures { result ≡ is_word b }
 {
     is_letter(b) || is_digit(b)
 }
 
+/// Whether this byte is white space.
 fn is_white(b: u8) -> bool
     ensures { result ≡ is_white b }
 {
@@ -187,6 +194,7 @@ fn front_sign(text: &[u8]) -> Option<Sign>
     }
 }
 
+/// The name or keyword at the front of a text that begins with a letter.
 fn word(text: &[u8]) -> Front
     requires { HasHead (λ b. is_letter b ≡ true) text.now }
     ensures { IsFront result text.now }
@@ -207,6 +215,7 @@ fn word(text: &[u8]) -> Front
     }
 }
 
+/// The number at the front of a text that begins with a digit.
 fn number(text: &[u8]) -> Front
     requires { HasHead (λ b. is_digit b ≡ true) text.now }
     ensures { IsFront result text.now }
@@ -221,6 +230,7 @@ fn number(text: &[u8]) -> Front
     }
 }
 
+/// The sign at the front of a text that begins with nothing else.
 fn sign(text: &[u8]) -> Front
     requires head { HasHead (λ b. (is_letter b || is_digit b) ≡ false) text.now }
     requires dark { blank_len text.now ≡ 0 }

@@ -12,9 +12,9 @@ use std::alloc::Global;
 
 /// The tokens of a text, the last of which is its end, or its first fault.
 pub fn tokens(alloc: Global, text: &[u8]) -> Result<Tokens, TextError>
-    ensures reads { IfOk result (λ ts. Reads text.now 0 text.now (Ok ts)) }
+    ensures reads { IfOk result (λ ts. Reads text.now (Ok ts)) }
     ensures fault { IfErr result (λ e. IsFaultOf text.now e) }
-    ensures only { (r : Outcome) → Reads text.now 0 text.now r → MatchResult result (λ ts. r ≡ Ok ts) (λ e. (e ≡ faults.OutOfMemory) ⊎ (r ≡ Err e)) }
+    ensures only { (r : Outcome) → Reads text.now r → MatchResult result (λ ts. r ≡ Ok ts) (λ e. (e ≡ faults.OutOfMemory) ⊎ (r ≡ Err e)) }
     ensures well { IfOk result (λ ts. AreTokens text.now ts) }
 {
     let mut found = Tokens::new(alloc);

@@ -20,7 +20,15 @@ fn tells_spans_and_places(rt: HostRuntime) -> Result<(), Fail> {
     let text = b"task _a1 # {\xff}\r\n\t1..2=!x==;\n#12";
     let found = tokens(rt.alloc(), text)?;
     let wanted = [
-        token(TokenKind::Keyword { word: Keyword::Task }, 0, 4, 1, 1),
+        token(
+            TokenKind::Keyword {
+                word: Keyword::Task,
+            },
+            0,
+            4,
+            1,
+            1,
+        ),
         token(TokenKind::Name, 5, 8, 1, 6),
         token(TokenKind::Number { value: 1 }, 17, 18, 2, 2),
         token(TokenKind::Sign { sign: Sign::DotDot }, 18, 20, 2, 3),
@@ -28,8 +36,24 @@ fn tells_spans_and_places(rt: HostRuntime) -> Result<(), Fail> {
         token(TokenKind::Sign { sign: Sign::Assign }, 21, 22, 2, 6),
         token(TokenKind::Sign { sign: Sign::Bang }, 22, 23, 2, 7),
         token(TokenKind::Name, 23, 24, 2, 8),
-        token(TokenKind::Sign { sign: Sign::EqualEqual }, 24, 26, 2, 9),
-        token(TokenKind::Sign { sign: Sign::Semicolon }, 26, 27, 2, 11),
+        token(
+            TokenKind::Sign {
+                sign: Sign::EqualEqual,
+            },
+            24,
+            26,
+            2,
+            9,
+        ),
+        token(
+            TokenKind::Sign {
+                sign: Sign::Semicolon,
+            },
+            26,
+            27,
+            2,
+            11,
+        ),
         token(TokenKind::End, 31, 31, 3, 4),
     ];
     assert_eq!(rt; found.as_slice(), wanted.as_slice());
@@ -43,20 +67,63 @@ fn splits_at_the_longest_token(rt: HostRuntime) -> Result<(), Fail> {
     let wanted = [
         token(TokenKind::Number { value: 12 }, 0, 2, 1, 1),
         token(TokenKind::Name, 2, 10, 1, 3),
-        token(TokenKind::Sign { sign: Sign::LessEqual }, 10, 12, 1, 11),
-        token(TokenKind::Sign { sign: Sign::GreaterEqual }, 12, 14, 1, 13),
-        token(TokenKind::Sign { sign: Sign::BangEqual }, 14, 16, 1, 15),
+        token(
+            TokenKind::Sign {
+                sign: Sign::LessEqual,
+            },
+            10,
+            12,
+            1,
+            11,
+        ),
+        token(
+            TokenKind::Sign {
+                sign: Sign::GreaterEqual,
+            },
+            12,
+            14,
+            1,
+            13,
+        ),
+        token(
+            TokenKind::Sign {
+                sign: Sign::BangEqual,
+            },
+            14,
+            16,
+            1,
+            15,
+        ),
         token(TokenKind::Sign { sign: Sign::DotDot }, 16, 18, 1, 17),
         token(TokenKind::Sign { sign: Sign::Dot }, 18, 19, 1, 19),
-        token(TokenKind::Sign { sign: Sign::EqualEqual }, 19, 21, 1, 20),
+        token(
+            TokenKind::Sign {
+                sign: Sign::EqualEqual,
+            },
+            19,
+            21,
+            1,
+            20,
+        ),
         token(TokenKind::Sign { sign: Sign::Assign }, 21, 22, 1, 22),
         token(TokenKind::Sign { sign: Sign::Less }, 22, 23, 1, 23),
-        token(TokenKind::Sign { sign: Sign::Greater }, 23, 24, 1, 24),
+        token(
+            TokenKind::Sign {
+                sign: Sign::Greater,
+            },
+            23,
+            24,
+            1,
+            24,
+        ),
         token(TokenKind::End, 24, 24, 1, 25),
     ];
     assert_eq!(rt; found.as_slice(), wanted.as_slice());
     let none = tokens(rt.alloc(), b"")?;
-    assert_eq!(rt; none.as_slice(), [token(TokenKind::End, 0, 0, 1, 1)].as_slice());
+    assert_eq!(rt;
+        none.as_slice(),
+        [token(TokenKind::End, 0, 0, 1, 1)].as_slice()
+    );
     Ok(())
 }
 
@@ -136,8 +203,16 @@ fn names_the_first_fault(rt: HostRuntime) {
         (b"#\xff\n@".as_slice(), "bad byte", 3),
         (b"\0".as_slice(), "bad byte", 0),
         (b"18446744073709551616".as_slice(), "number too wide", 0),
-        (b"x 0099999999999999999999999".as_slice(), "number too wide", 2),
-        (b"1 abcdefghijklmnopqrstuvwxyz_012345 $".as_slice(), "name too long", 2),
+        (
+            b"x 0099999999999999999999999".as_slice(),
+            "number too wide",
+            2,
+        ),
+        (
+            b"1 abcdefghijklmnopqrstuvwxyz_012345 $".as_slice(),
+            "name too long",
+            2,
+        ),
     ];
     for (text, name, at) in cases {
         let told = match tokens(rt.alloc(), text) {
@@ -154,9 +229,20 @@ fn names_the_first_fault(rt: HostRuntime) {
 
 #[test]
 fn takes_what_just_fits(rt: HostRuntime) -> Result<(), Fail> {
-    let found = tokens(rt.alloc(), b"18446744073709551615 abcdefghijklmnopqrstuvwxyz_01234")?;
+    let found = tokens(
+        rt.alloc(),
+        b"18446744073709551615 abcdefghijklmnopqrstuvwxyz_01234",
+    )?;
     let wanted = [
-        token(TokenKind::Number { value: 18446744073709551615 }, 0, 20, 1, 1),
+        token(
+            TokenKind::Number {
+                value: 18446744073709551615,
+            },
+            0,
+            20,
+            1,
+            1,
+        ),
         token(TokenKind::Name, 21, 53, 1, 22),
         token(TokenKind::End, 53, 53, 1, 54),
     ];
@@ -168,6 +254,9 @@ fn takes_what_just_fits(rt: HostRuntime) -> Result<(), Fail> {
 fn reads_a_long_text_in_one_pass(rt: HostRuntime) -> Result<(), Fail> {
     let text = vec![in rt.alloc(); b' '; 1048576]?;
     let found = tokens(rt.alloc(), text.as_slice())?;
-    assert_eq!(rt; found.as_slice(), [token(TokenKind::End, 1048576, 1048576, 1, 1048577)].as_slice());
+    assert_eq!(rt;
+        found.as_slice(),
+        [token(TokenKind::End, 1048576, 1048576, 1, 1048577)].as_slice()
+    );
     Ok(())
 }

@@ -1,4 +1,4 @@
-use Rattle.std.proofs.Common.{◌≡◌, ℕ, arith, sym, ap, subst, length}
+use Rattle.std.proofs.Common.{ℕ, sym, ap, subst, length}
 use Rattle.gr_text.specs.declared.token.TokenKind.TheVariants as kinds
 use Rattle.gr_text.specs.Text.{IsLongest}
 use Rattle.gr_text.proofs.Found.{head_some}

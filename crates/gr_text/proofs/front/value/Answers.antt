@@ -1,7 +1,6 @@
-use Rattle.std.proofs.Common.{◌≡◌, ◌+◌, ◌<◌, length, arith, lit≤}
+use Rattle.std.proofs.Common.{◌+◌, ◌<◌, length, arith, lit≤}
 use Rattle.std.proofs.lemmas.Int.Digits.{digits_value_more}
 use Rattle.std.proofs.lemmas.Str.Parse.{digits_value-take-le}
-use Rattle.gr_text.proofs.Steps.{backward}
 use Rattle.gr_text.proofs.front.value.Goals as goal
 
 pub returns-in-None : goal.returns-in-None

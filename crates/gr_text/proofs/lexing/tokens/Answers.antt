@@ -1,9 +1,9 @@
-use Rattle.std.proofs.Common.{◌≡◌, ℕ, ◌+◌, ◌<◌, ◌^◌, List, [], ◌∷◌, ◌++◌, length, Ok, Err, sym, ap, refl, subst, ◌∙◌, inr, arith, rules}
+use Rattle.std.proofs.Common.{◌+◌, List, [], ◌∷◌, ◌++◌, Ok, sym, ap, subst, ◌∙◌, inr, arith, rules}
 use Rattle.std.proofs.lemmas.Bool.{eqb-true}
 use Rattle.gr_text.specs.declared.token.Token.{Token}
 use Rattle.gr_text.specs.declared.token.TokenKind.TheVariants as kinds
-use Rattle.gr_text.specs.Text.{Text, Outcome, Reads, AreTokens}
-use Rattle.gr_text.proofs.Reading.{Reached, Final, reached_low, blank_step, token_step, wide_end, long_end, bad_end, the_end}
+use Rattle.gr_text.specs.Text.{Text, Reads, AreTokens}
+use Rattle.gr_text.proofs.Reading.{Reached, reached_low, blank_step, token_step, wide_end, long_end, bad_end, the_end}
 use Rattle.gr_text.proofs.Well.{well}
 use Rattle.gr_text.proofs.lexing.tokens.Goals as goal
 
@@ -20,7 +20,7 @@ advance-place-requires-clause-column c =
 pub each-preserved-in-Blank : goal.each-preserved-in-Blank
 each-preserved-in-Blank c =
     subst (λ (x : Text). Reached c.args.text.now (c.each.at + c.in-Blank.length) c.advance-place.result x c.each.found) (sym c.past-rest.ensures)
-      (blank_step c.args.text.now c.each.at c.in-Blank.length c.each.place c.advance-place.result c.each.rest.now c.each.found c.each.invariant c.in-Blank.ensures c.advance-place.ensures)
+    (blank_step c.args.text.now c.each.at c.in-Blank.length c.each.place c.advance-place.result c.each.rest.now c.each.found c.each.invariant c.in-Blank.ensures c.advance-place.ensures)
 
 pub advance-place-requires-in-Token-clause-line : goal.advance-place-requires-in-Token-clause-line
 advance-place-requires-in-Token-clause-line c =
@@ -35,8 +35,8 @@ advance-place-requires-in-Token-clause-column c =
 pub each-preserved : goal.each-preserved
 each-preserved c =
     subst (λ (ts : List Token). Reached c.args.text.now (c.each.at + c.in-Token.length) c.advance-place-in-Token.result c.past-rest-in-Token.result.now ts) (sym c.in_ok-push-in-Token.ensures.ok)
-      (subst (λ (x : Text). Reached c.args.text.now (c.each.at + c.in-Token.length) c.advance-place-in-Token.result x (c.each.found ++ record { kind = c.in-Token.kind; from = c.each.at; to = c.each.at + c.in-Token.length; at = c.each.place } ∷ [])) (sym c.past-rest-in-Token.ensures)
-        (token_step c.args.text.now c.in-Token.kind c.each.at c.in-Token.length c.each.place c.advance-place-in-Token.result c.each.rest.now c.each.found c.each.invariant c.in-Token.ensures c.advance-place-in-Token.ensures))
+    (subst (λ (x : Text). Reached c.args.text.now (c.each.at + c.in-Token.length) c.advance-place-in-Token.result x (c.each.found ++ record { kind = c.in-Token.kind; from = c.each.at; to = c.each.at + c.in-Token.length; at = c.each.place } ∷ [])) (sym c.past-rest-in-Token.ensures)
+    (token_step c.args.text.now c.in-Token.kind c.each.at c.in-Token.length c.each.place c.advance-place-in-Token.result c.each.rest.now c.each.found c.each.invariant c.in-Token.ensures c.advance-place-in-Token.ensures))
 
 pub returns-in-TooWide-clause-fault : goal.returns-in-TooWide-clause-fault
 returns-in-TooWide-clause-fault c = (wide_end c.args.text.now c.each.at c.each.place c.each.rest.now c.each.found c.each.invariant (search rules) c.in-TooWide.ensures).reads
@@ -59,7 +59,7 @@ returns-in-Bad-clause-only c = λ r h. inr ((bad_end c.args.text.now c.each.at c
 pub returns-clause-reads : goal.returns-clause-reads
 returns-clause-reads c =
     let all = the_end c.args.text.now c.each.at c.each.place c.each.rest.now c.each.found c.each.invariant (eqb-true _ 0 (sym c.is_empty.ensures ∙ c.each-test.false)) in
-    subst (λ (ts : List Token). Reads c.args.text.now 0 c.args.text.now (Ok ts)) (sym c.in_ok-push.ensures.ok) all.reads
+    subst (λ (ts : List Token). Reads c.args.text.now (Ok ts)) (sym c.in_ok-push.ensures.ok) all.reads
 
 pub returns-clause-only : goal.returns-clause-only
 returns-clause-only c = λ r h.

@@ -1,4 +1,4 @@
-use Rattle.std.proofs.Common.{◌≢◌, ℕ, ◌<◌}
+use Rattle.std.proofs.Common.{◌≢◌, ◌<◌}
 use Rattle.gr_text.specs.Spelling.{keyword_bytes}
 use Rattle.gr_text.specs.declared.token.Keyword.{Keyword}
 use Rattle.gr_text.proofs.Words.{rank}
