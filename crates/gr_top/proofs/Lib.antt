@@ -1,3 +1,4 @@
 pub mod Firsts
 pub mod Straight
 pub mod Alone
+pub mod Dues

@@ -10,7 +10,7 @@ use Rattle.gr_lang.specs.Accepted.{faults, IsAccepted}
 use Rattle.gr_text.specs.declared.token.Token.{Token}
 use Rattle.gr_text.specs.declared.fault.TextError.{TextError}
 use Rattle.gr_text.specs.declared.fault.TextError.TheVariants as text_errors
-use Rattle.gr_text.specs.Text.{Reads as ReadsFrom, Outcome}
+use Rattle.gr_text.specs.Text.{Reads}
 use Rattle.gr_text.specs.Places.{place_of}
 use Rattle.gr_parse.specs.declared.fault.ParseError.TheVariants as parse_errors
 use Rattle.gr_parse.specs.Grammar.{IsProgramOf, Says}
@@ -25,9 +25,6 @@ use Rattle.gr_top.specs.declared.answer.Refusal.TheVariants.{Memory, ReadFault}
 use Rattle.gr_top.specs.Texts.{first_trap}
 use Rattle.gr_lang.specs.Histories.{legal, complete}
 use Rattle.std.specs.Io.KnownBytes.{Keeps}
-
-abbrev pub Reads : List ℕ → Outcome → Type 0
-Reads text r = ReadsFrom text 0 text r
 
 pub data ReadsAs (text : List ℕ) : Reading → Type 0 where
   bad_byte : {at : ℕ} → Reads text (Err (text_errors.BadByte at)) → ReadsAs text (refused (fault k.BadByte (place_of text at)))
