@@ -6,7 +6,7 @@ use Rattle.std.proofs.lemmas.Str.Ascii.{IsAscii-from_reads}
 use Rattle.gr_text.specs.declared.token.Token.{Token}
 use Rattle.gr_text.specs.declared.token.TokenKind.{TokenKind}
 use Rattle.gr_text.specs.declared.token.TokenKind.TheVariants as kinds
-use Rattle.gr_text.specs.Text.{Text, Outcome, ReadsFrom, IsToken, IsTokenOf, IsLongest, AreTokens, are_rising, are_all, is_letter, is_digit, is_word, with_front, token_at, blank_len}
+use Rattle.gr_text.specs.Text.{Text, Outcome, ReadsFrom, IsToken, IsTokenOf, IsLongest, Fits, AreTokens, IsRising, are_all, is_letter, is_digit, is_word, with_front, token_at, blank_len}
 use Rattle.gr_text.proofs.Found.{blank_fits}
 use Rattle.gr_text.proofs.Longest.{some_token}
 use Rattle.gr_text.proofs.Runs.{and_both, all_at}
@@ -30,9 +30,9 @@ record From (whole : Text) (at : ℕ) (tokens : List Token) : Type 0 where
   parts : tokens ≡ front ++ token_at whole kinds.End (length whole) 0 ∷ []
   no_end : All (λ t. t.kind ≢ kinds.End) front
   tokens_of : All (IsTokenOf whole) front
-  rise : are_rising at tokens
+  rise : IsRising at tokens
 
-rising_from : (a b : ℕ) (ts : List Token) → a ≤ b → are_rising b ts → are_rising a ts
+rising_from : (a b : ℕ) (ts : List Token) → a ≤ b → IsRising b ts → IsRising a ts
 rising_from a b [] h r = r
 rising_from a b (t ∷ ts) h r = (omega (arith, r.0), r.1)
 
@@ -50,11 +50,14 @@ no_end_token : (bytes : Text) → IsToken kinds.End bytes → ⊥
 no_end_token [] t = t
 no_end_token (b ∷ bytes) t = t
 
+width : (at len : ℕ) → at + len - at ≡ len
+width at len = omega arith
+
 span : (whole : Text) (at len : ℕ) → slice_range whole at (at + len) ≡ take len (drop at whole)
 span whole at len = let e : at + len - at ≡ len = omega arith in ap (λ (n : ℕ). take n (drop at whole)) e
 
-token_of : (whole : Text) (kind : TokenKind) (at len : ℕ) (text : Text) → text ≡ drop at whole → at + length text ≡ length whole → IsLongest kind len text → IsTokenOf whole (token_at whole kind at len)
-token_of whole kind at len text here size t =
+token_of : (whole : Text) (kind : TokenKind) (at len : ℕ) (text : Text) → text ≡ drop at whole → at + length text ≡ length whole → IsLongest kind len text → Fits kind len → IsTokenOf whole (token_at whole kind at len)
+token_of whole kind at len text here size t fit =
     let some = some_token kind len text t.token in
     let within = t.within in
     let bytes : take len text ≡ slice_range whole at (at + len) = ap (take len) here ∙ sym (span whole at len) in
@@ -63,6 +66,7 @@ token_of whole kind at len text here size t =
       some = omega arith;
       within = omega arith;
       token = token;
+      fits = subst (λ (n : ℕ). Fits kind n) (sym (width at len)) fit;
       ascii = λ e. name_ascii (slice_range whole at (at + len)) (subst (λ (x : TokenKind). IsToken x (slice_range whole at (at + len))) e token);
       place = refl;
     }
@@ -79,12 +83,12 @@ end_from whole at ts here e = subst (λ (x : List Token). From whole at x) e (re
   rise = (omega arith, tt);
 })
 
-more_from : (whole : Text) (kind : TokenKind) (at len : ℕ) (text : Text) (us ts : List Token) → text ≡ drop at whole → at + length text ≡ length whole → IsLongest kind len text → From whole (at + len) us → token_at whole kind at len ∷ us ≡ ts → From whole at ts
-more_from whole kind at len text us ts here size t h e = subst (λ (x : List Token). From whole at x) e (record {
+more_from : (whole : Text) (kind : TokenKind) (at len : ℕ) (text : Text) (us ts : List Token) → text ≡ drop at whole → at + length text ≡ length whole → IsLongest kind len text → Fits kind len → From whole (at + len) us → token_at whole kind at len ∷ us ≡ ts → From whole at ts
+more_from whole kind at len text us ts here size t fit h e = subst (λ (x : List Token). From whole at x) e (record {
   front = token_at whole kind at len ∷ h.front;
   parts = ap (λ (x : List Token). token_at whole kind at len ∷ x) h.parts;
   no_end = all_cons (λ t. t.kind ≢ kinds.End) (token_at whole kind at len) h.front (kind_not_end kind (take len text) t.token) h.no_end;
-  tokens_of = all_cons (IsTokenOf whole) (token_at whole kind at len) h.front (token_of whole kind at len text here size t) h.tokens_of;
+  tokens_of = all_cons (IsTokenOf whole) (token_at whole kind at len) h.front (token_of whole kind at len text here size t fit) h.tokens_of;
   rise = (omega arith, h.rise);
 })
 
@@ -100,7 +104,7 @@ from_reads whole at text r (ReadsFrom.blank some h) here size ts e =
 from_reads whole at text _ (ReadsFrom.token {len = len} {kind = kind} {r = tail} t fits h) here size ts e =
     let x = front_ok (token_at whole kind at len) tail ts e in
     let within = t.within in
-    more_from whole kind at len text x.0 ts here size t
+    more_from whole kind at len text x.0 ts here size t fits
     (from_reads whole (at + len) (drop len text) tail h (ap (drop len) here ∙ drop-drop len at whole) (omega (arith, size, length-drop len text)) x.0 x.1) x.2
 from_reads whole at text _ (ReadsFrom.too_wide t wide) here size ts e = absurd cc
 from_reads whole at text _ (ReadsFrom.too_long t long) here size ts e = absurd cc

@@ -1,5 +1,5 @@
 -- What the tokens of a text are, and what a text reads as: its tokens with their places, or its first fault.
-use Rattle.std.specs.Prelude.{◌≡◌, ◌≢◌, ℕ, ◌+◌, ◌<◌, ◌≤◌, ◌^◌, Bool, true, false, ◌&&◌, ◌||◌, nat_le, ◌==◌, if◌then◌else◌, List, [], ◌∷◌, ◌++◌, length, take, drop, slice_range, All, Result, Ok, Err}
+use Rattle.std.specs.Prelude.{◌≡◌, ◌≢◌, ℕ, ◌+◌, ◌-◌, ◌<◌, ◌≤◌, ◌^◌, Bool, true, false, ◌&&◌, ◌||◌, nat_le, ◌==◌, if◌then◌else◌, List, [], ◌∷◌, ◌++◌, length, take, drop, slice_range, All, Result, Ok, Err}
 use Rattle.std.specs.List.{prefix_len}
 use Rattle.std.specs.Str.Parse.{digits_value}
 use Rattle.std.specs.Str.{IsAscii}
@@ -110,18 +110,19 @@ IsFaultOf text (faults.NameTooLong at) = Reads text (Err (faults.NameTooLong at)
 
 -- ---- what callers rely on
 
--- The token is the bytes of its span, which aren't none, and it knows its place.
+-- The token is the bytes of its span, which aren't none, within its limits, and it knows its place.
 pub record IsTokenOf (text : Text) (t : Token) : Type 0 where
   pub some : t.from < t.to
   pub within : t.to ≤ length text
   pub token : IsToken t.kind (slice_range text t.from t.to)
+  pub fits : Fits t.kind (t.to - t.from)
   pub ascii : t.kind ≡ kinds.Name → IsAscii (slice_range text t.from t.to)
   pub place : t.at ≡ place_of text t.from
 
 -- Each token begins at or behind the end of the one before it.
-abbrev pub are_rising : ℕ → List Token → Type 0
-are_rising from [] = Unit {0}
-are_rising from (t ∷ ts) = (from ≤ t.from) × are_rising t.to ts
+abbrev pub IsRising : ℕ → List Token → Type 0
+IsRising from [] = Unit {0}
+IsRising from (t ∷ ts) = (from ≤ t.from) × IsRising t.to ts
 
 -- The tokens of a text: one end behind tokens that are parts of the text in their order.
 pub record AreTokens (text : Text) (tokens : List Token) : Type 0 where
@@ -129,7 +130,7 @@ pub record AreTokens (text : Text) (tokens : List Token) : Type 0 where
   pub parts : tokens ≡ front ++ token_at text kinds.End (length text) 0 ∷ []
   pub no_end : All (λ t. t.kind ≢ kinds.End) front
   pub tokens_of : All (IsTokenOf text) front
-  pub rise : are_rising 0 tokens
+  pub rise : IsRising 0 tokens
 
 -- ---- of private contracts
 
