@@ -22,6 +22,7 @@ use Rattle.gr_top.specs.declared.answer.WorldEnd.{WorldEnd}
 use Rattle.gr_top.specs.declared.command.Command.{Command}
 use Rattle.gr_top.specs.declared.command.Command.TheVariants.{Run, Check}
 use Rattle.gr_top.specs.declared.texts.TrapAt.{TrapAt}
+use Rattle.gr_top.proofs.Once.{once}
 
 pub if_some : {A : Type 0} {P : A → Type 0} (o : Option A) → ((a : A) → o ≡ Some a → P a) → IfSome o P
 if_some None h = tt
@@ -165,3 +166,164 @@ pub refused_told : (words : List (String Global)) (bytes : List ℕ) (world : Op
 refused_told words bytes world _ (IsDue.usage h) = λ kind line column e. cc
 refused_told words bytes world _ (IsDue.too_long h more) = λ kind line column e. cc
 refused_told words bytes world _ (IsDue.read {reading} c some few h) = read_told words bytes world c reading some h
+
+-- ---- one answer is due
+
+same_command : (words : List (String Global)) (c e : Command) → command_of words ≡ Some c → command_of words ≡ Some e → c ≡ e
+same_command words c e x y = let k : Some c ≡ Some e = sym x ∙ y in cc
+
+pub due_once : (words : List (String Global)) (bytes : List ℕ) (world : Option WorldEnd) (d e : Due) → IsDue words bytes world d → IsDue words bytes world e → d ≡ e
+due_once words bytes world _ _ (IsDue.usage h) (IsDue.usage k) = refl
+due_once words bytes world _ _ (IsDue.usage h) (IsDue.too_long k more) = absurd (k h)
+due_once words bytes world _ _ (IsDue.usage h) (IsDue.read c some few k) = absurd (some_command words c some h)
+due_once words bytes world _ _ (IsDue.too_long h more) (IsDue.usage k) = absurd (h k)
+due_once words bytes world _ _ (IsDue.too_long h more) (IsDue.too_long k also) = refl
+due_once words bytes world _ _ (IsDue.too_long h more) (IsDue.read c some few k) = absurd (omega (arith, more, few))
+due_once words bytes world _ _ (IsDue.read c some few h) (IsDue.usage k) = absurd (some_command words c some k)
+due_once words bytes world _ _ (IsDue.read c some few h) (IsDue.too_long k more) = absurd (omega (arith, more, few))
+due_once words bytes world _ _ (IsDue.read {reading = r1} c some few h) (IsDue.read {reading = r2} e also less k) =
+    ap (λ (x : Command). due_read x r1 world) (same_command words c e some also) ∙ ap (λ (x : Reading). due_read e x world) (once bytes r1 r2 h k)
+
+-- Of an accepted text it is the answer to its program.
+due_of_program : (words : List (String Global)) (bytes : List ℕ) (world : Option WorldEnd) (d : Due) (c : Command) (p : Program)
+    → IsDue words bytes world d → length bytes ≤ 2 ^ 20 → ReadsAs bytes (accepted p) → command_of words ≡ Some c → d ≡ due_accepted c p world
+due_of_program words bytes world d c p h few reads some = due_once words bytes world d (due_accepted c p world) h (IsDue.read c some few reads)
+
+pub due_check : (words : List (String Global)) (bytes : List ℕ) (world : Option WorldEnd) (d : Due) (p : Program)
+    → IsDue words bytes world d → length bytes ≤ 2 ^ 20 → ReadsAs bytes (accepted p) → command_of words ≡ Some Check → status_of d.refusal ≡ 0
+due_check words bytes world d p h few reads some = ap (λ (x : Due). status_of x.refusal) (due_of_program words bytes world d Check p h few reads some)
+
+pub due_run_status : (words : List (String Global)) (bytes : List ℕ) (world : Option WorldEnd) (d : Due) (p : Program)
+    → IsDue words bytes world d → length bytes ≤ 2 ^ 20 → ReadsAs bytes (accepted p) → command_of words ≡ Some Run → is_built p ≡ true → IsRunStatus d
+due_run_status words bytes world d p h few reads some built =
+    let e : d ≡ due_run p world = due_of_program words bytes world d Run p h few reads some ∙ ap (λ (b : Bool). if b then due_run p world else due_refused not_built) built in
+    subst IsRunStatus (sym e) (run_status p world)
+
+-- A refused text is refused.
+pub due_refusal : (words : List (String Global)) (bytes : List ℕ) (world : Option WorldEnd) (d : Due) (c : Command) (f : Fault)
+    → IsDue words bytes world d → length bytes ≤ 2 ^ 20 → ReadsAs bytes (refused f) → command_of words ≡ Some c → d ≡ due_refused f
+due_refusal words bytes world d c f h few reads some = due_once words bytes world d (due_refused f) h (IsDue.read c some few reads)
+
+-- ---- the headline
+
+-- A run that ended well: its history is legal and complete, and its prints are due.
+pub record Ended (bytes : List ℕ) (world : Option WorldEnd) (d : Due) : Type 0 where
+  pub program : Program
+  pub reads : ReadsAs bytes (accepted program)
+  pub end : WorldEnd
+  pub kept : world ≡ Some end
+  pub legal : legal program cores steps end.history ≡ true
+  pub complete : complete program cores steps end.history ≡ true
+  pub text : d.text ≡ prints end.history
+
+history_ended : (bytes : List ℕ) (p : Program) (w : WorldEnd) (b : Bool) (t : Option TrapAt) → ReadsAs bytes (accepted p) → legal p cores steps w.history ≡ true
+    → (complete p cores steps w.history ≡ true) ⊎ (is_some (first_trap w.history) ≡ true) → complete p cores steps w.history ≡ b → first_trap w.history ≡ t
+    → (d : Due) → d ≡ (if b then record { refusal = r.Nothing; text = prints w.history; ran = true } else due_trapped w.history t) → status_of d.refusal ≡ 0 → Ended bytes (Some w) d
+history_ended bytes p w true t reads legal ends x y d e zero_status =
+    record { program = p; reads = reads; end = w; kept = refl; legal = legal; complete = x; text = ap (λ (z : Due). z.text) e }
+history_ended bytes p w false None reads legal (inl c) x y d e s = let k : true ≡ false = sym c ∙ x in cc
+history_ended bytes p w false None reads legal (inr c) x y d e s = let k : false ≡ true = sym (ap is_some y) ∙ c in cc
+history_ended bytes p w false (Some t) reads legal ends x y d e s = absurd (omega (arith, s, ap (λ (z : Due). status_of z.refusal) e))
+
+run_ended : (bytes : List ℕ) (p : Program) (world : Option WorldEnd) (d : Due) → ReadsAs bytes (accepted p) → IsWorldOf bytes world → is_some world ≡ d.ran
+    → d ≡ due_run p world → status_of d.refusal ≡ 0 → Ended bytes world d
+run_ended bytes p None d reads h ran e s = let k : false ≡ true = ran ∙ ap (λ (z : Due). z.ran) e in cc
+run_ended bytes p (Some w) d reads h ran e s =
+    let same : h.0 ≡ p = let q : accepted h.0 ≡ accepted p = once bytes (accepted h.0) (accepted p) h.1 reads in cc in
+    let run : IsRunOf p w = subst (λ (x : Program). IsRunOf x w) same h.2 in
+    history_ended bytes p w (complete p cores steps w.history) (first_trap w.history) reads run.legal run.ends refl refl d e s
+
+built_ended : (bytes : List ℕ) (p : Program) (world : Option WorldEnd) (d : Due) (b : Bool) → ReadsAs bytes (accepted p) → IsWorldOf bytes world → is_some world ≡ d.ran
+    → d ≡ (if b then due_run p world else due_refused not_built) → status_of d.refusal ≡ 0 → Ended bytes world d
+built_ended bytes p world d true reads h ran e s = run_ended bytes p world d reads h ran e s
+built_ended bytes p world d false reads h ran e s = absurd (omega (arith, s, ap (λ (z : Due). status_of z.refusal) e))
+
+read_ended : (bytes : List ℕ) (reading : Reading) (world : Option WorldEnd) (d : Due) → ReadsAs bytes reading → IsWorldOf bytes world → is_some world ≡ d.ran
+    → d ≡ due_read Run reading world → status_of d.refusal ≡ 0 → Ended bytes world d
+read_ended bytes (refused f) world d reads h ran e s = absurd (omega (arith, s, ap (λ (z : Due). status_of z.refusal) e))
+read_ended bytes (accepted p) world d reads h ran e s = built_ended bytes p world d (is_built p) reads h ran e s
+
+pub headline : (words : List (String Global)) (bytes : List ℕ) (world : Option WorldEnd) (d : Due) → IsDue words bytes world d → command_of words ≡ Some Run
+    → IsWorldOf bytes world → is_some world ≡ d.ran → status_of d.refusal ≡ 0 → Ended bytes world d
+headline words bytes world _ (IsDue.usage none) some h ran s = absurd (some_command words Run some none)
+headline words bytes world _ (IsDue.too_long is more) some h ran s = absurd (omega (arith, s))
+headline words bytes world _ (IsDue.read {reading} c is few reads) some h ran s =
+    read_ended bytes reading world (due_read c reading world) reads h ran (ap (λ (x : Command). due_read x reading world) (same_command words c Run is some)) s
+
+-- ---- what the call tells, from the answer that was made and what came of it
+
+-- A status that isn't 5 is no fault of the sink.
+no_fault : (refusal : Refusal) (n : ℕ) → status_of refusal ≡ n → n ≢ 5 → (written : ℕ) → refusal ≢ r.WriteFault written
+no_fault refusal n s h written e = h (sym s ∙ ap status_of e)
+
+module _ (words : List (String Global)) (a : Answer) (before now : Option (List ℕ)) (refusal : Refusal) (world : Option WorldEnd) (kept : world ≡ a.world) (came : Came (made a) before now refusal world) where
+  here : (bytes : List ℕ) → IsDue words bytes a.world (made a) → IsDue words bytes world (made a)
+  here bytes h = subst (λ (w : Option WorldEnd). IsDue words bytes w (made a)) (sym kept) h
+
+  pub answer_told : (bytes : List ℕ) → refusal ≢ r.ReadFault → refusal ≢ r.Memory → IsDue words bytes a.world (made a) → Answered words bytes before now refusal world
+  answer_told bytes x y h = answered words bytes before now refusal world (made a) (here bytes h) came x y
+
+  mine : (n : ℕ) → status_of refusal ≡ n → n ≢ 5 → (refusal ≡ a.refusal) × Appends before now (string_bytes a.text) × (is_some world ≡ is_some a.world)
+  mine n s h = own (made a) before now refusal world came (no_fault refusal n s h)
+
+  pub usage_of : (bytes : List ℕ) → IsDue words bytes a.world (made a) → refusal ≡ r.Usage → command_of words ≡ None
+  usage_of bytes h e = usage_told words bytes world (made a) (here bytes h) (sym (mine 2 (ap status_of e) (λ k. omega (arith, k))).0 ∙ e)
+
+  pub too_long_of : (bytes : List ℕ) → IsDue words bytes a.world (made a) → refusal ≡ r.TooLong → 2 ^ 20 < length bytes
+  too_long_of bytes h e = too_long_told words bytes world (made a) (here bytes h) (sym (mine 8 (ap status_of e) (λ k. omega (arith, k))).0 ∙ e)
+
+  pub refused_of : (bytes : List ℕ) → IsDue words bytes a.world (made a) → (kind : Kind) (line column : ℕ) → refusal ≡ r.Refused kind line column
+      → Refusing bytes (command_of words) (fault kind (record { line = line; column = column }))
+  refused_of bytes h kind line column e =
+      refused_told words bytes world (made a) (here bytes h) kind line column (sym (mine 1 (ap status_of e) (λ k. omega (arith, k))).0 ∙ e)
+
+  pub headline_of : (bytes : List ℕ) → IsDue words bytes a.world (made a) → IsWorldOf bytes a.world → status_of refusal ≡ 0 → command_of words ≡ Some Run
+      → (p : Program) × (w : WorldEnd) × ReadsAs bytes (accepted p) × (world ≡ Some w) × (legal p cores steps w.history ≡ true) × (complete p cores steps w.history ≡ true)
+        × Appends before now (prints w.history)
+  headline_of bytes h runs s some =
+      let x = mine 0 s (λ k. omega (arith, k)) in
+      let e = headline words bytes world (made a) (here bytes h) some (subst (IsWorldOf bytes) (sym kept) runs) x.2 (ap status_of (sym x.0) ∙ s) in
+      (e.program, e.end, e.reads, e.kept, e.legal, e.complete, subst (Appends before now) e.text x.1)
+
+  -- Where the sink didn't fail, the refusal is the answer's own.
+  unless : ((written : ℕ) → refusal ≢ r.WriteFault written) → refusal ≡ a.refusal
+  unless h = (own (made a) before now refusal world came h).0
+
+  pub check_of : (bytes : List ℕ) (p : Program) → IsDue words bytes a.world (made a) → length bytes ≤ 2 ^ 20 → ReadsAs bytes (accepted p) → command_of words ≡ Some Check
+      → ((written : ℕ) → refusal ≢ r.WriteFault written) → status_of refusal ≡ 0
+  check_of bytes p h few reads some n = ap status_of (unless n) ∙ due_check words bytes world (made a) p (here bytes h) few reads some
+
+  pub run_of : (bytes : List ℕ) (p : Program) → IsDue words bytes a.world (made a) → length bytes ≤ 2 ^ 20 → ReadsAs bytes (accepted p) → command_of words ≡ Some Run → is_built p ≡ true
+      → ((written : ℕ) → refusal ≢ r.WriteFault written) → (status_of refusal ≡ 0) ⊎ (status_of refusal ≡ 3)
+  run_of bytes p h few reads some built n = subst (λ (x : Refusal). (status_of x ≡ 0) ⊎ (status_of x ≡ 3)) (sym (unless n)) (due_run_status words bytes world (made a) p (here bytes h) few reads some built)
+
+  pub refuse_of : (bytes : List ℕ) (f : Fault) → IsDue words bytes a.world (made a) → length bytes ≤ 2 ^ 20 → ReadsAs bytes (refused f) → command_of words ≢ None
+      → ((written : ℕ) → refusal ≢ r.WriteFault written) → refusal ≡ r.Refused f.kind f.at.line f.at.column
+  refuse_of bytes f h few reads some n = by (command_of words) refl
+    where
+      by : (o : Option Command) → command_of words ≡ o → refusal ≡ r.Refused f.kind f.at.line f.at.column
+      by None e = absurd (some e)
+      by (Some c) e = unless n ∙ ap (λ (d : Due). d.refusal) (due_refusal words bytes world (made a) c f (here bytes h) few reads e)
+
+pub either_of : (status n : ℕ) → status ≡ n → (n ≡ 0) ⊎ (n ≡ 3) → (status ≡ 0) ⊎ ((status ≡ 3) ⊎ (status ≡ 6))
+either_of status n e (inl h) = inl (e ∙ h)
+either_of status n e (inr h) = inr (inl (e ∙ h))
+
+-- The completeness clauses, for a source that may tell what it held.
+pub if_checks : (words : List (String Global)) (o : Option (List ℕ)) (Q R X : Type 0)
+    → ((bytes : List ℕ) → o ≡ Some bytes → (p : Program) → length bytes ≤ 2 ^ 20 → ReadsAs bytes (accepted p) → command_of words ≡ Some Check → Q → R → X)
+    → IfSome o (λ bytes. (p : Program) → length bytes ≤ 2 ^ 20 → ReadsAs bytes (accepted p) → command_of words ≡ Some Check → Q → R → X)
+if_checks words None Q R X h = tt
+if_checks words (Some bytes) Q R X h = h bytes refl
+
+pub if_runs : (words : List (String Global)) (o : Option (List ℕ)) (Q R X : Type 0)
+    → ((bytes : List ℕ) → o ≡ Some bytes → (p : Program) → length bytes ≤ 2 ^ 20 → ReadsAs bytes (accepted p) → command_of words ≡ Some Run → is_built p ≡ true → Q → R → X)
+    → IfSome o (λ bytes. (p : Program) → length bytes ≤ 2 ^ 20 → ReadsAs bytes (accepted p) → command_of words ≡ Some Run → is_built p ≡ true → Q → R → X)
+if_runs words None Q R X h = tt
+if_runs words (Some bytes) Q R X h = h bytes refl
+
+pub if_refuses : (words : List (String Global)) (o : Option (List ℕ)) (Q R : Type 0) (X : Fault → Type 0)
+    → ((bytes : List ℕ) → o ≡ Some bytes → (f : Fault) → length bytes ≤ 2 ^ 20 → ReadsAs bytes (refused f) → command_of words ≢ None → Q → R → X f)
+    → IfSome o (λ bytes. (f : Fault) → length bytes ≤ 2 ^ 20 → ReadsAs bytes (refused f) → command_of words ≢ None → Q → R → X f)
+if_refuses words None Q R X h = tt
+if_refuses words (Some bytes) Q R X h = h bytes refl

@@ -1,4 +1,7 @@
 pub mod Firsts
 pub mod Straight
 pub mod Alone
+pub mod TextOnce
+pub mod GrammarOnce
+pub mod Once
 pub mod Dues

@@ -6,6 +6,8 @@ ghost use Rattle.gr_lang.specs.Faults.{fault};
 ghost use Rattle.gr_lang.specs.Histories.{legal, complete};
 ghost use Rattle.gr_lang.specs.declared.syntax.Program.{Program};
 ghost use Rattle.gr_lang.specs.declared.refusal.Kind.{Kind};
+ghost use Rattle.gr_lang.specs.declared.refusal.Fault.{Fault};
+ghost use Rattle.gr_top.specs.declared.answer.WorldEnd.{WorldEnd};
 ghost use Rattle.gr_top.specs.declared.command.Command.TheVariants as command;
 ghost use Rattle.gr_top.specs.Built.{is_built};
 ghost use Rattle.gr_top.specs.Commands.{command_of};
@@ -95,11 +97,11 @@ pub fn top<S: Source, K: Sink>(
         × Answered words.now bytes (K.got sink.old) (K.got sink.new) result.refusal result.world
         × IsWorldOf bytes result.world }
 
-    // The headline: at status 0 the run's history is legal and complete for the program of the text, and the sink got its prints.
+    // The headline: at status 0 a run was made whose history is legal and complete for the program of the text, and the sink got its prints.
     ensures headline { result.status ≡ 0 → command_of words.now ≡ Some command.Run → IfSome (S.left source.old) (λ bytes.
-        (p : Program) × ReadsAs bytes (accepted p) × IfSome result.world (λ world.
-        (legal p cores steps world.history ≡ true) × (complete p cores steps world.history ≡ true)
-        × Appends (K.got sink.old) (K.got sink.new) (prints world.history))) }
+        (p : Program) × (world : WorldEnd) × ReadsAs bytes (accepted p) × (result.world ≡ Some world)
+        × (legal p cores steps world.history ≡ true) × (complete p cores steps world.history ≡ true)
+        × Appends (K.got sink.old) (K.got sink.new) (prints world.history)) }
 
     // Nothing but memory and faults stands between an accepted text and its answer.
     ensures checks { IfSome (S.left source.old) (λ bytes. (p : Program) → length bytes ≤ 2 ^ 20 → ReadsAs bytes (accepted p)
@@ -110,6 +112,11 @@ pub fn top<S: Source, K: Sink>(
         → command_of words.now ≡ Some command.Run → is_built p ≡ true
         → (Rose (S.faults source.old) (S.faults source.new) → ⊥) → (Rose (K.faults sink.old) (K.faults sink.new) → ⊥)
         → (result.status ≡ 0) ⊎ (result.status ≡ 3) ⊎ (result.status ≡ 6)) }
+
+    ensures refuses { IfSome (S.left source.old) (λ bytes. (f : Fault) → length bytes ≤ 2 ^ 20 → ReadsAs bytes (refused_as f)
+        → command_of words.now ≢ None
+        → (Rose (S.faults source.old) (S.faults source.new) → ⊥) → (Rose (K.faults sink.old) (K.faults sink.new) → ⊥)
+        → (result.refusal ≡ Refusal.Refused f.kind f.at.line f.at.column) ⊎ (result.status ≡ 6)) }
 
     // With neither an answer nor a fault of the sink, nothing is written.
     ensures silent { (result.refusal ≡ Refusal.Memory) ⊎ (result.refusal ≡ Refusal.ReadFault)

@@ -7,9 +7,10 @@ mod call;
 mod command;
 mod delivery;
 mod engine;
-mod probe;
+mod laws;
 
 mod texts;
 
 pub use call::top;
+pub use laws::answers_are_exact;
 pub use answer::{Refusal, RunEnd, WorldEnd};

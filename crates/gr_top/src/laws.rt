@@ -1,0 +1,15 @@
+//! Laws of what a text reads as and of the answer due. The functions do nothing: what they tell is their
+//! contracts.
+ghost use Rattle.std.specs.Prelude.{◌≡◌, ℕ, List, Option, String};
+ghost use Rattle.std.specs.declared.alloc.Global.{Global};
+ghost use Rattle.gr_top.specs.declared.answer.WorldEnd.{WorldEnd};
+ghost use Rattle.gr_top.specs.Due.{Reading, Due};
+ghost use Rattle.gr_top.specs.Readings.{ReadsAs, IsDue};
+
+/// A text reads as one accepted program or as one first fault, and so one answer is due.
+pub fn answers_are_exact()
+    ensures reading { (text : List ℕ) (r q : Reading) → ReadsAs text r → ReadsAs text q → r ≡ q }
+    ensures due { (words : List (String Global)) (bytes : List ℕ) (world : Option WorldEnd) (d e : Due)
+        → IsDue words bytes world d → IsDue words bytes world e → d ≡ e }
+{
+}
