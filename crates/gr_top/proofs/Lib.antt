@@ -5,3 +5,4 @@ pub mod TextOnce
 pub mod GrammarOnce
 pub mod Once
 pub mod Dues
+pub mod Runs

@@ -5,3 +5,4 @@ pub mod Texts
 pub mod Due
 pub mod Readings
 pub mod Views
+pub mod Runs

@@ -8,6 +8,7 @@ mod command;
 mod delivery;
 mod engine;
 mod laws;
+mod probe;
 
 mod texts;
 
