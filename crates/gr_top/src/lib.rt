@@ -8,7 +8,6 @@ mod command;
 mod delivery;
 mod engine;
 mod laws;
-mod probe;
 
 mod texts;
 

@@ -1,0 +1,52 @@
+//! Makes the calls of the rows of standard input, one JSON object a line, and writes how many of them
+//! answered as the row says, after a line for each that didn't.
+//!
+//! A row has the words of the command line, the source, and the status and output that are due. The source
+//! is a text, or pieces of text each with the number of times that it is repeated, or bytes in hexadecimal.
+#![tactic(auto)]
+
+mod row;
+
+use crate::row::Row;
+use gr_io::{MemSink, MemSource};
+use gr_top::top;
+use serde_json::Value;
+use std::alloc::{AllocError, Global};
+use std::io::{BufRead, BufReader};
+
+/// How many bytes a call may write.
+const ROOM: usize = 1 << 16;
+
+/// How many bytes one read gives.
+const PIECE: usize = 4096;
+
+/// Whether the call answers as the row says.
+fn agrees(alloc: Global, row: Row) -> Result<bool, AllocError> {
+    let mut source = MemSource::new(row.source, PIECE, Vec::new(alloc));
+    let mut sink = MemSink::new(alloc, ROOM, PIECE, Vec::new(alloc))?;
+    let end = top(alloc, row.words.as_slice(), &mut source, &mut sink);
+    Ok(end.status as u64 == row.status && sink.bytes() == row.output.as_bytes())
+}
+
+fn main(rt: HostRuntime) -> anyhow::Result<()> {
+    let alloc = rt.alloc();
+    let input = BufReader::new(alloc, rt.stdin())?;
+    let mut agreed = 0u64;
+    let mut made = 0u64;
+    for line in input.lines(alloc) {
+        let line = line?;
+        let value = Value::from_str(alloc, line.as_str())?;
+        made = made.saturating_add(1);
+        let Some(row) = row::read_row(alloc, &value)? else {
+            println!(rt; "no row: {line}")?;
+            continue;
+        };
+        if agrees(alloc, row)? {
+            agreed = agreed.saturating_add(1);
+        } else {
+            println!(rt; "not as it says: {line}")?;
+        }
+    }
+    println!(rt; "{agreed} of {made} rows agree")?;
+    Ok(())
+}
