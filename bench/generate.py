@@ -27,7 +27,7 @@ task step{k}(i, s) {{
   let fresh = seen.insert(key);
   if fresh == 1 {{
     let n = sums.add(key % 1000, i * 3 + {k});
-    if n > 4000000000 | n == 0 {{ later.push(n); }} else {{ best.merge max (key, n - i); }}
+    if (n > 4000000000) | (n == 0) {{ later.push(n); }} else {{ best.merge max (key, n - i); }}
   }} else {{
     while i > 0 {{
       i = i / 2;
