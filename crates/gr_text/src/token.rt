@@ -89,9 +89,13 @@ pub enum Sign {
 /// What a token is, with a number's value.
 #[derive(Clone, Copy, Debug, PartialEq, Eq)]
 pub enum TokenKind {
+    /// A name, which is the bytes of the token's span.
     Name,
+    /// A number, of this value.
     Number { value: u64 },
+    /// A keyword.
     Keyword { word: Keyword },
+    /// A sign.
     Sign { sign: Sign },
     /// The end of the text, which is the last token of each text.
     End,
