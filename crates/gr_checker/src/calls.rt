@@ -13,6 +13,7 @@ use gr_lang::operation::{Declared, Operation, operation_of, reducer_of};
 use gr_lang::refusal::Kind;
 use gr_lang::syntax::{CallText, Expr, Name};
 
+/// Notes a local that is read or assigned and isn't visible.
 #[tactic(auto, unfolding(gr_lang::specs::Conditions::faults_at), using(crate::proofs::Leasts::leasts))]
 pub fn check_local(meanings: &Meanings, found: &mut Earliest, visible: &NameSet, name: &Name)
     ensures { found.new ≡ seen (named meanings.now) found.old (mentions name.now visible.now ∷ []) }
@@ -22,6 +23,7 @@ pub fn check_local(meanings: &Meanings, found: &mut Earliest, visible: &NameSet,
     found.note_if(!is_visible, Kind::Unknown, name.at);
 }
 
+/// Notes the faults of an expression where these locals are visible.
 #[tactic(auto, using(crate::proofs::Trees::trees))]
 pub fn check_expr(meanings: &Meanings, found: &mut Earliest, visible: &NameSet, expr: &Expr)
     ensures { found.new ≡ seen (named meanings.now) found.old (expr_sites visible.now expr.now) }
@@ -37,6 +39,7 @@ pub fn check_expr(meanings: &Meanings, found: &mut Earliest, visible: &NameSet, 
     }
 }
 
+/// Notes the faults of arguments, from left to right.
 #[tactic(auto, using(crate::proofs::Leasts::leasts))]
 pub fn check_exprs(meanings: &Meanings, found: &mut Earliest, visible: &NameSet, exprs: &[Expr])
     ensures { found.new ≡ seen (named meanings.now) found.old (exprs_sites visible.now exprs.now) }
@@ -46,6 +49,7 @@ pub fn check_exprs(meanings: &Meanings, found: &mut Earliest, visible: &NameSet,
     }
 }
 
+/// Notes the faults of targets that are locals of the task already.
 #[tactic(auto, using(crate::proofs::Leasts::leasts))]
 pub fn check_locals(meanings: &Meanings, found: &mut Earliest, visible: &NameSet, names: &[Name])
     ensures { found.new ≡ seen (named meanings.now) found.old (locals_sites visible.now names.now) }
@@ -124,6 +128,7 @@ fn miscounts(declared: Option<Declared>, operation: Option<Operation>, count: us
     }
 }
 
+/// Notes a `show` of a name that is no object.
 #[tactic(auto, unfolding(gr_lang::specs::Conditions::faults_at), using(crate::proofs::Leasts::leasts))]
 pub fn check_shown(meanings: &Meanings, found: &mut Earliest, name: &Name)
     ensures { found.new ≡ seen (named meanings.now) found.old (shows name.now ∷ []) }
@@ -133,6 +138,7 @@ pub fn check_shown(meanings: &Meanings, found: &mut Earliest, name: &Name)
     found.note_if(is_task(declared), Kind::WrongKind, name.at);
 }
 
+/// Notes the start of what is no task, or of a task with another number of parameters than `count`.
 #[tactic(auto, unfolding(gr_lang::specs::Conditions::faults_at), using(crate::proofs::Leasts::leasts))]
 pub fn check_start(meanings: &Meanings, found: &mut Earliest, name: &Name, count: usize)
     ensures { found.new ≡ seen (named meanings.now) found.old (starts name.now count ∷ []) }
@@ -185,6 +191,7 @@ fn check_operation(meanings: &Meanings, found: &mut Earliest, targets: &[Name], 
     check_first(found, is_miscounted, targets);
 }
 
+/// Notes the faults of a call, with the targets of its result words, and of its arguments.
 #[tactic(auto, using(crate::proofs::Leasts::leasts))]
 pub fn check_call(
     meanings: &Meanings,

@@ -1,9 +1,9 @@
-//! The checker.
+//! The whole check of a program.
 ghost use Rattle.std.specs.Prelude.{◌≡◌, true, [], OnOk, IfOk, IfErr};
 ghost use Rattle.gr_checker.specs.Earliest.{least, seen};
 ghost use Rattle.gr_lang.specs.Accepted.{faults, uses_sites, IsAccepted};
 ghost use Rattle.gr_checker.specs.Heads as heads_spec;
-ghost use Rattle.gr_lang.specs.Conditions as program_spec;
+ghost use Rattle.gr_lang.specs.Conditions as condition;
 ghost use Rattle.gr_checker.specs.Meanings.{named};
 ghost use Rattle.gr_lang.specs.Targets.{targets_fit};
 ghost use Rattle.gr_checker.specs.Refusals.{Refuses};
@@ -76,7 +76,7 @@ fn use_all<'a>(
 }
 
 fn is_main(item: &Item) -> bool
-    ensures { result ≡ program_spec.is_main item.now }
+    ensures { result ≡ condition.is_main item.now }
 {
     match item {
         Item::Task { name, .. } => name.text.is_word("main"),
@@ -85,7 +85,7 @@ fn is_main(item: &Item) -> bool
 }
 
 fn finds_main(items: &[Item]) -> bool
-    ensures { result ≡ program_spec.has_main items.now }
+    ensures { result ≡ condition.has_main items.now }
 {
     for item in items {
         if is_main(item) {

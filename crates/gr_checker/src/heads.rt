@@ -1,4 +1,4 @@
-//! The first pass: what the items declare.
+//! The pass over the heads of the items: what they declare.
 ghost use Rattle.std.specs.Prelude.{◌≡◌, ◌+◌, ◌≤◌, ◌^◌, min, OnOk, IfOk};
 ghost use Rattle.gr_checker.specs.Heads as spec;
 
@@ -13,11 +13,17 @@ use std::alloc::AllocError;
 /// What the items so far declare. Counts stop at one more than what is allowed.
 #[derive(Drop)]
 pub struct Heads<'a> {
+    /// The earliest fault so far.
     pub found: Earliest,
+    /// What each name of an object or a task means.
     pub meanings: Meanings<'a>,
+    /// The names that have an `input`.
     pub inputs: NameSet<'a>,
+    /// The number of objects, the heap not counted, at most 65.
     pub objects: u64,
+    /// The number of tasks, at most 257.
     pub tasks: u64,
+    /// The words of the arrays and the heap together, at most 2^24 + 1.
     pub words: u64,
 }
 
@@ -94,6 +100,7 @@ fn declare_object<'a>(
     Ok(())
 }
 
+/// Notes the faults of what an item declares, and adds it to what is declared. An error is want of memory.
 pub fn declare<'a>(heads: &mut Heads<'a>, item: &'a Item) -> Result<(), AllocError>
     requires { spec.IsCapped heads.old }
     ensures { OnOk result (heads.new ≡ spec.item_declared item.now heads.old) }

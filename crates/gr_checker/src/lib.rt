@@ -1,12 +1,14 @@
 //! The checker: it accepts a program in which no condition for a refusal holds, and else finds the first that does.
 #![tactic(auto)]
 
-pub mod calls;
+mod calls;
 pub mod check;
-pub mod earliest;
-pub mod heads;
+mod earliest;
+mod heads;
 pub mod laws;
-pub mod meanings;
-pub mod name_set;
-pub mod uses;
-pub mod walk;
+mod meanings;
+mod name_set;
+#[cfg(test)]
+mod tests;
+mod uses;
+mod walk;

@@ -1,4 +1,4 @@
-//! The second pass: what the items use.
+//! The pass over what the items use: `show`, `input` and the bodies of the tasks.
 ghost use Rattle.std.specs.Prelude.{◌≡◌, [], ◌∷◌, OnOk, IfOk};
 ghost use Rattle.gr_lang.specs.Conditions as condition;
 ghost use Rattle.gr_checker.specs.Earliest.{seen, least};
@@ -79,6 +79,8 @@ fn check_input(meanings: &Meanings, found: &mut Earliest, name: &Name, values: &
     found.note_if(!is_array(declared), Kind::InputUnknown, name.at);
 }
 
+/// The earliest of what was found and of the faults of what an item uses, where names have these meanings.
+/// An error is want of memory.
 #[tactic(auto, using(crate::proofs::Leasts::leasts))]
 pub fn use_item<'a>(
     alloc: Global,

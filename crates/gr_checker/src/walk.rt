@@ -13,11 +13,14 @@ use gr_lang::refusal::Kind;
 use gr_lang::syntax::{Expr, HowText, Name, Right, Stmt};
 use std::alloc::AllocError;
 
-/// The earliest fault so far, the names that the task has so far, and those that are visible.
+/// A walk through a task's text.
 #[derive(Drop)]
 pub struct Walk<'a> {
+    /// The earliest fault so far.
     pub found: Earliest,
+    /// The names that the task has so far.
     pub named: NameSet<'a>,
+    /// Those of them that are visible.
     pub visible: NameSet<'a>,
 }
 
@@ -36,6 +39,7 @@ fn give<'a>(meanings: &Meanings<'a>, walk: &mut Walk<'a>, name: &'a Name) -> Res
     Ok(())
 }
 
+/// Gives the task these names one after the other, and makes them visible. An error is want of memory.
 #[tactic(auto, using(crate::proofs::Leasts::leasts))]
 pub fn give_all<'a>(
     meanings: &Meanings<'a>,
@@ -127,6 +131,7 @@ fn check_forall(
     check_exprs(meanings, found, visible, args);
 }
 
+/// Notes the faults of a statement, and goes on after it. An error is want of memory.
 #[cycle(statements)]
 #[tactic(auto, using(crate::proofs::Statements::statements))]
 pub fn check_stmt<'a>(
@@ -208,6 +213,8 @@ pub fn check_stmt<'a>(
     }
 }
 
+/// Notes the faults of statements, and goes on after them, with the names that they give visible. An error
+/// is want of memory.
 #[cycle(statements)]
 #[tactic(auto, using(crate::proofs::Statements::statements))]
 pub fn check_all<'a>(
