@@ -1,5 +1,5 @@
 -- The first of two lists, one after the other.
-use Rattle.std.proofs.Common.{◌≡◌, List, [], ◌∷◌, ◌++◌, Option, flat_map, refl, ◌∙◌, sym, ap}
+use Rattle.std.proofs.Common.{◌≡◌, List, [], ◌∷◌, ◌++◌, Option, flat_map, refl, ◌∙◌, sym}
 use Rattle.gr_checker.specs.Earliest.{least, noted, seen}
 use Rattle.gr_lang.specs.Declarations.{Meaning}
 use Rattle.gr_lang.specs.Sites.{Site}

@@ -1,5 +1,5 @@
 -- One level of an expression.
-use Rattle.std.proofs.Common.{◌≡◌, ℕ, List, [], ◌∷◌, ◌++◌, Option, ◌∙◌, ap}
+use Rattle.std.proofs.Common.{◌≡◌, ℕ, List, [], ◌∷◌, ◌++◌}
 use Rattle.gr_lang.specs.declared.syntax.Expr.{Expr, the_lemmas}
 use Rattle.gr_lang.specs.declared.syntax.Expr.TheVariants as e
 use Rattle.gr_lang.specs.declared.syntax.BinOp.{BinOp}

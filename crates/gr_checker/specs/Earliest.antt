@@ -1,5 +1,5 @@
 -- The earliest of the faults that were noted so far, one fault and one site after the other.
-use Rattle.std.specs.Prelude.{Bool, if◌then◌else◌, List, [], ◌∷◌, Option, Some, None}
+use Rattle.std.specs.Prelude.{if◌then◌else◌, List, [], ◌∷◌, Option, Some, None}
 use Rattle.gr_lang.specs.Conditions.{faults_at}
 use Rattle.gr_lang.specs.Declarations.{Meaning}
 use Rattle.gr_lang.specs.Faults.{comes_before}

@@ -1,5 +1,4 @@
 -- What a refusal says of the program.
-use Rattle.std.specs.Prelude.{ℕ}
 use Rattle.gr_lang.specs.declared.syntax.Program.{Program}
 use Rattle.gr_lang.specs.Faults.{fault, IsFirst}
 use Rattle.gr_lang.specs.Accepted.{faults}

@@ -86,6 +86,20 @@ fn check_right(
     }
 }
 
+fn check_set<'a>(
+    meanings: &Meanings<'a>,
+    walk: &mut Walk<'a>,
+    fresh: bool,
+    names: &'a [Name],
+    right: &Right,
+) -> Result<(), AllocError>
+    ensures { OnOk result (walk.new ≡ after (named meanings.now) walk.old (spec.both (spec.only (spec.right_sites names.now right.now)) (spec.targets fresh names.now))) }
+{
+    check_right(meanings, &mut walk.found, &walk.visible, names, right);
+    check_targets(meanings, walk, fresh, names)?;
+    Ok(())
+}
+
 fn check_how(meanings: &Meanings, found: &mut Earliest, visible: &NameSet, how: &HowText)
     ensures { found.new ≡ seen (named meanings.now) found.old (spec.how_sites how.now visible.now) }
 {
@@ -147,14 +161,7 @@ pub fn check_stmt<'a>(
             targets,
             right,
         } => {
-            check_right(
-                meanings,
-                &mut walk.found,
-                &walk.visible,
-                targets.as_slice(),
-                right,
-            );
-            check_targets(meanings, walk, *fresh, targets.as_slice())?;
+            check_set(meanings, walk, *fresh, targets.as_slice(), right)?;
             Ok(())
         }
         Stmt::Do { call } => {

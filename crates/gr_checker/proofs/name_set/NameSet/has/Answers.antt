@@ -1,5 +1,4 @@
-use Rattle.std.proofs.Common.{◌∙◌, ap, sym}
-use Rattle.gr_lang.specs.Names.{has}
+use Rattle.std.proofs.Common.{◌∙◌}
 use Rattle.gr_checker.proofs.Texts.{has-map}
 use Rattle.gr_checker.proofs.name_set.NameSet.has.Goals as goal
 
