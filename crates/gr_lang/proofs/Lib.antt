@@ -3,3 +3,4 @@ pub mod Nexts
 pub mod Opens
 pub mod AcceptedRows
 pub mod StepRows
+pub mod Fits

@@ -10,3 +10,4 @@ pub mod refusal;
 pub mod rows;
 pub mod step_rows;
 pub mod syntax;
+pub mod targets;

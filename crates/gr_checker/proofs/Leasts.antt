@@ -1,0 +1,21 @@
+-- The first of two lists, one after the other.
+use Rattle.std.proofs.Common.{◌≡◌, List, [], ◌∷◌, ◌++◌, Option, flat_map, refl, ◌∙◌, sym}
+use Rattle.gr_checker.specs.Earliest.{least, noted, seen}
+use Rattle.gr_lang.specs.Declarations.{Meaning}
+use Rattle.gr_lang.specs.Sites.{Site}
+use Rattle.gr_lang.specs.Conditions.{faults_at}
+use Rattle.gr_lang.specs.declared.refusal.Fault.{Fault}
+
+pub least-append : (found : Option Fault) (fs gs : List Fault) → least found (fs ++ gs) ≡ least (least found fs) gs
+least-append found [] gs = refl
+least-append found (f ∷ fs) gs = least-append (noted found f) fs gs
+
+pub seen-append : (m : Meaning) (found : Option Fault) (ss ts : List Site) → seen m found (ss ++ ts) ≡ seen m (seen m found ss) ts
+seen-append m found [] ts = refl
+seen-append m found (s ∷ ss) ts = seen-append m (least found (faults_at m s)) ss ts
+
+pub seen-least : (m : Meaning) (found : Option Fault) (ss : List Site) → seen m found ss ≡ least found (flat_map (faults_at m) ss)
+seen-least m found [] = refl
+seen-least m found (s ∷ ss) = seen-least m (least found (faults_at m s)) ss ∙ sym (least-append found (faults_at m s) (flat_map (faults_at m) ss))
+
+pub ruleset leasts = (least-append, seen-append)

@@ -1,0 +1,9 @@
+use Rattle.gr_lang.specs.Accepted.{faults}
+use Rattle.gr_checker.proofs.Firsts.{first-unique, first-some}
+use Rattle.gr_checker.proofs.laws.refusals_are_exact.Goals as goal
+
+pub returns-clause-at_most_one : goal.returns-clause-at_most_one
+returns-clause-at_most_one c = λ p f g a b. first-unique (faults p) f g a b
+
+pub returns-clause-none_if_accepted : goal.returns-clause-none_if_accepted
+returns-clause-none_if_accepted c = λ p f a accepted. first-some (faults p) f a accepted.no_faults

@@ -1,0 +1,15 @@
+use Rattle.std.proofs.Common.{length, ◌∷◌}
+use Rattle.gr_checker.specs.Meanings.{named}
+use Rattle.gr_lang.specs.Sites.{starts}
+use Rattle.gr_lang.specs.Walks.{how_sites, exprs_sites}
+use Rattle.gr_checker.proofs.Leasts.{seen-append}
+use Rattle.gr_checker.proofs.walk.check_spawn.Goals as goal
+
+pub returns : goal.returns
+returns c = cc (
+  seen-append (named c.args.meanings.now) c.args.found.now (how_sites c.args.how.now c.args.visible.now)
+      (starts c.args.target.now (length c.args.args.now) ∷ exprs_sites c.args.visible.now c.args.args.now),
+  c.check_how.ensures,
+  c.check_start.ensures,
+  c.check_exprs.ensures,
+)

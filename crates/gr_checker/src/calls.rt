@@ -1,0 +1,207 @@
+//! Expressions and calls.
+ghost use Rattle.std.specs.Prelude.{◌≡◌, [], ◌∷◌, slice_get};
+ghost use Rattle.gr_checker.specs.Earliest.{least, seen};
+ghost use Rattle.gr_lang.specs.Conditions as spec;
+ghost use Rattle.gr_lang.specs.Sites.{mentions, calls, starts, shows};
+ghost use Rattle.gr_checker.specs.Meanings.{named};
+ghost use Rattle.gr_lang.specs.Walks.{expr_sites, exprs_sites, locals_sites, call_sites};
+
+use crate::earliest::Earliest;
+use crate::meanings::Meanings;
+use crate::name_set::NameSet;
+use gr_lang::operation::{Declared, Operation, operation_of, reducer_of};
+use gr_lang::refusal::Kind;
+use gr_lang::syntax::{CallText, Expr, Name};
+
+/// Notes a local that is read or assigned and isn't visible.
+#[tactic(auto, unfolding(gr_lang::specs::Conditions::faults_at), using(crate::proofs::Leasts::leasts))]
+pub fn check_local(meanings: &Meanings, found: &mut Earliest, visible: &NameSet, name: &Name)
+    ensures { found.new ≡ seen (named meanings.now) found.old (mentions name.now visible.now ∷ []) }
+{
+    let _ = meanings;
+    let is_visible = visible.has(&name.text);
+    found.note_if(!is_visible, Kind::Unknown, name.at);
+}
+
+/// Notes the faults of an expression where these locals are visible.
+#[tactic(auto, using(crate::proofs::Trees::trees))]
+pub fn check_expr(meanings: &Meanings, found: &mut Earliest, visible: &NameSet, expr: &Expr)
+    ensures { found.new ≡ seen (named meanings.now) found.old (expr_sites visible.now expr.now) }
+{
+    match expr {
+        Expr::Lit { .. } => (),
+        Expr::Local { name } => check_local(meanings, found, visible, name),
+        Expr::Not { inner } => check_expr(meanings, found, visible, inner.get()),
+        Expr::Two { left, right, .. } => {
+            check_expr(meanings, found, visible, left.get());
+            check_expr(meanings, found, visible, right.get());
+        }
+    }
+}
+
+/// Notes the faults of arguments, from left to right.
+#[tactic(auto, using(crate::proofs::Leasts::leasts))]
+pub fn check_exprs(meanings: &Meanings, found: &mut Earliest, visible: &NameSet, exprs: &[Expr])
+    ensures { found.new ≡ seen (named meanings.now) found.old (exprs_sites visible.now exprs.now) }
+{
+    for expr in exprs {
+        check_expr(meanings, found, visible, expr);
+    }
+}
+
+/// Notes the faults of targets that are locals of the task already.
+#[tactic(auto, using(crate::proofs::Leasts::leasts))]
+pub fn check_locals(meanings: &Meanings, found: &mut Earliest, visible: &NameSet, names: &[Name])
+    ensures { found.new ≡ seen (named meanings.now) found.old (locals_sites visible.now names.now) }
+{
+    for name in names {
+        check_local(meanings, found, visible, name);
+    }
+}
+
+fn is_task(declared: Option<Declared>) -> bool
+    ensures { result ≡ spec.is_task declared }
+{
+    match declared {
+        Some(Declared::Task { .. }) => true,
+        _ => false,
+    }
+}
+
+fn is_object(declared: Option<Declared>) -> bool
+    ensures { result ≡ spec.is_object declared }
+{
+    match declared {
+        None => false,
+        Some(Declared::Task { .. }) => false,
+        Some(_) => true,
+    }
+}
+
+fn differs(declared: Option<Declared>, count: usize) -> bool
+    ensures { result ≡ spec.differs declared count }
+{
+    match declared {
+        Some(Declared::Task { params }) => params != count,
+        _ => false,
+    }
+}
+
+fn misses(declared: Option<Declared>, operation: Option<Operation>) -> bool
+    ensures { result ≡ spec.misses declared operation }
+{
+    match operation {
+        None => false,
+        Some(operation) => match declared {
+            None => false,
+            Some(Declared::Task { .. }) => false,
+            Some(declared) => !operation.works_on(declared),
+        },
+    }
+}
+
+fn misfits(operation: Option<Operation>, count: usize, has_reducer: bool) -> bool
+    ensures { result ≡ spec.misfits operation count has_reducer }
+{
+    match operation {
+        None => false,
+        Some(operation) => {
+            let is_misfit = if operation.takes_reducer() {
+                !has_reducer
+            } else {
+                has_reducer
+            };
+            count != operation.argument_count() || is_misfit
+        }
+    }
+}
+
+fn miscounts(declared: Option<Declared>, operation: Option<Operation>, count: usize) -> bool
+    ensures { result ≡ spec.miscounts declared operation count }
+{
+    match declared {
+        None => false,
+        Some(declared) => match operation {
+            None => false,
+            Some(operation) => operation.works_on(declared) && count != operation.result_count(),
+        },
+    }
+}
+
+/// Notes a `show` of a name that is no object.
+#[tactic(auto, unfolding(gr_lang::specs::Conditions::faults_at), using(crate::proofs::Leasts::leasts))]
+pub fn check_shown(meanings: &Meanings, found: &mut Earliest, name: &Name)
+    ensures { found.new ≡ seen (named meanings.now) found.old (shows name.now ∷ []) }
+{
+    let declared = meanings.get(&name.text);
+    found.note_if(declared.is_none(), Kind::Unknown, name.at);
+    found.note_if(is_task(declared), Kind::WrongKind, name.at);
+}
+
+/// Notes the start of what is no task, or of a task with another number of parameters than `count`.
+#[tactic(auto, unfolding(gr_lang::specs::Conditions::faults_at), using(crate::proofs::Leasts::leasts))]
+pub fn check_start(meanings: &Meanings, found: &mut Earliest, name: &Name, count: usize)
+    ensures { found.new ≡ seen (named meanings.now) found.old (starts name.now count ∷ []) }
+{
+    let declared = meanings.get(&name.text);
+    found.note_if(declared.is_none(), Kind::Unknown, name.at);
+    found.note_if(is_object(declared), Kind::WrongKind, name.at);
+    found.note_if(differs(declared, count), Kind::WrongArity, name.at);
+}
+
+fn check_reducer(found: &mut Earliest, reducer: &Option<Name>)
+    ensures { found.new ≡ least found.old (spec.reducer_unknown reducer.now) }
+{
+    match reducer {
+        None => (),
+        Some(name) => {
+            let reducer = reducer_of(&name.text);
+            found.note_if(reducer.is_none(), Kind::Unknown, name.at);
+        }
+    }
+}
+
+fn check_first(found: &mut Earliest, is_wrong: bool, targets: &[Name])
+    ensures { found.new ≡ least found.old (spec.at_first is_wrong (slice_get targets.now 0)) }
+{
+    if let Some(first) = targets.get(0) {
+        found.note_if(is_wrong, Kind::WrongArity, first.at);
+    }
+}
+
+#[tactic(auto, unfolding(gr_lang::specs::Conditions::faults_at), using(crate::proofs::Leasts::leasts))]
+fn check_operation(meanings: &Meanings, found: &mut Earliest, targets: &[Name], call: &CallText)
+    ensures { found.new ≡ seen (named meanings.now) found.old (calls call.now targets.now ∷ []) }
+{
+    let declared = meanings.get(&call.object.text);
+    let operation = operation_of(&call.op.text);
+    let is_missed = misses(declared, operation);
+    let is_misfit = misfits(
+        operation,
+        call.args.as_slice().len(),
+        call.reducer.is_some(),
+    );
+    let is_miscounted = miscounts(declared, operation, targets.len());
+    found.note_if(declared.is_none(), Kind::Unknown, call.object.at);
+    found.note_if(operation.is_none(), Kind::Unknown, call.op.at);
+    check_reducer(found, &call.reducer);
+    found.note_if(is_task(declared), Kind::WrongKind, call.object.at);
+    found.note_if(is_missed, Kind::WrongKind, call.op.at);
+    found.note_if(is_misfit, Kind::WrongArity, call.op.at);
+    check_first(found, is_miscounted, targets);
+}
+
+/// Notes the faults of a call, with the targets of its result words, and of its arguments.
+#[tactic(auto, using(crate::proofs::Leasts::leasts))]
+pub fn check_call(
+    meanings: &Meanings,
+    found: &mut Earliest,
+    visible: &NameSet,
+    targets: &[Name],
+    call: &CallText,
+)
+    ensures { found.new ≡ seen (named meanings.now) found.old (call_sites targets.now call.now visible.now) }
+{
+    check_operation(meanings, found, targets, call);
+    check_exprs(meanings, found, visible, call.args.as_slice());
+}
