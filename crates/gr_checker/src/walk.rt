@@ -86,6 +86,23 @@ fn check_right(
     }
 }
 
+<<<<<<< HEAD
+=======
+fn check_set<'a>(
+    meanings: &Meanings<'a>,
+    walk: &mut Walk<'a>,
+    fresh: bool,
+    names: &'a [Name],
+    right: &Right,
+) -> Result<(), AllocError>
+    ensures { OnOk result (walk.new ≡ after (named meanings.now) walk.old (spec.both (spec.only (spec.right_sites names.now right.now)) (spec.targets fresh names.now))) }
+{
+    check_right(meanings, &mut walk.found, &walk.visible, names, right);
+    check_targets(meanings, walk, fresh, names)?;
+    Ok(())
+}
+
+>>>>>>> c21d6c970cc6f54ce963ef284abb51806c38ccc6
 fn check_how(meanings: &Meanings, found: &mut Earliest, visible: &NameSet, how: &HowText)
     ensures { found.new ≡ seen (named meanings.now) found.old (spec.how_sites how.now visible.now) }
 {
@@ -147,6 +164,7 @@ pub fn check_stmt<'a>(
             targets,
             right,
         } => {
+<<<<<<< HEAD
             check_right(
                 meanings,
                 &mut walk.found,
@@ -155,6 +173,9 @@ pub fn check_stmt<'a>(
                 right,
             );
             check_targets(meanings, walk, *fresh, targets.as_slice())?;
+=======
+            check_set(meanings, walk, *fresh, targets.as_slice(), right)?;
+>>>>>>> c21d6c970cc6f54ce963ef284abb51806c38ccc6
             Ok(())
         }
         Stmt::Do { call } => {

@@ -1,4 +1,4 @@
--- What a source and a sink of bytes mean, when a failure is a fault of the device, and what the devices over memory are.
+-- What sources and sinks of bytes mean: faults, amounts, and the devices over memory.
 pub mod Faults
 pub mod Amounts
 pub mod Memory

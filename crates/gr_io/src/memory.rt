@@ -24,17 +24,29 @@ pub struct MemSource {
 impl Model for MemSource {
     ghost Value = { SourceState };
 
-    ghost view = { λ s. record { left = drop s.at s.bytes.items; piece = s.piece; fails = s.fails.items; calls = s.calls; faults = s.faults } };
+    ghost view = { λ s. record {
+      left = drop s.at s.bytes.items;
+      piece = s.piece;
+      fails = s.fails.items;
+      calls = s.calls;
+      faults = s.faults;
+    } };
 
     ghost invariant = { λ s. (s.at ≤ vec_len s.bytes) × (0 < s.piece) };
 }
 
 impl MemSource {
-    /// A source of `bytes` that gives at most `piece` of them, 1 or more, at a read. The reads whose
-    /// numbers, counted from 0, stand in `fails` fail.
+    /// A source of `bytes` that gives at most `piece` of them, 1 or more, at a read. The reads
+    /// whose numbers, counted from 0, stand in `fails` fail.
     pub fn new(bytes: Vec<u8>, piece: usize, fails: Vec<u64>) -> MemSource
         requires { 0 < piece }
-        ensures { result ≡ record { left = bytes.items; piece = piece; fails = fails.items; calls = 0; faults = 0 } }
+        ensures { result ≡ record {
+          left = bytes.items;
+          piece = piece;
+          fails = fails.items;
+          calls = 0;
+          faults = 0;
+        } }
     {
         MemSource {
             bytes,
@@ -47,6 +59,7 @@ impl MemSource {
     }
 }
 
+// Copies the first `count` bytes of `from` to the front of `buf`.
 fn copy_front(from: &[u8], buf: &mut [u8], count: usize)
     requires held { count ≤ length from.now }
     requires fits { count ≤ length buf.old }
@@ -67,11 +80,18 @@ impl Source for MemSource {
 
         // Just the chosen reads fail, and each of the others gives all that it may.
         ensures fails { IsErr result ↔ Contains self.old.fails self.old.calls }
-        ensures count { IfOk result (λ n. n ≡ min (min (length self.old.left) self.old.piece) (length buf.old)) }
+        ensures count { IfOk result (λ n.
+            n ≡ min (min (length self.old.left) self.old.piece) (length buf.old)) }
 
         // What the source is afterwards.
-        ensures ok { IfOk result (λ n. self.new ≡ record self.old { left = drop n self.old.left; calls = next_count self.old.calls }) }
-        ensures err { OnErr result (self.new ≡ record self.old { calls = next_count self.old.calls; faults = next_count self.old.faults }) }
+        ensures ok { IfOk result (λ n. self.new ≡ record self.old {
+          left = drop n self.old.left;
+          calls = next_count self.old.calls;
+        }) }
+        ensures err { OnErr result (self.new ≡ record self.old {
+          calls = next_count self.old.calls;
+          faults = next_count self.old.faults;
+        }) }
     {
         let fails = self.fails.contains(&self.calls);
         self.calls = self.calls.saturating_add(1);
@@ -101,15 +121,22 @@ pub struct MemSink {
 impl Model for MemSink {
     ghost Value = { SinkState };
 
-    ghost view = { λ s. record { got = s.bytes.items; room = s.room; piece = s.piece; fails = s.fails.items; calls = s.calls; faults = s.faults } };
+    ghost view = { λ s. record {
+      got = s.bytes.items;
+      room = s.room;
+      piece = s.piece;
+      fails = s.fails.items;
+      calls = s.calls;
+      faults = s.faults;
+    } };
 
     ghost invariant = { λ s. (vec_len s.bytes + s.room ≤ vec_capacity s.bytes) × (0 < s.piece) };
 }
 
 impl MemSink {
     /// A sink with room for `room` bytes that takes at most `piece` bytes, 1 or more, at a write.
-    /// The writes whose numbers, counted from 0, stand in `fails` fail, and so does a write of a byte
-    /// or more once no room is left.
+    /// The writes whose numbers, counted from 0, stand in `fails` fail, and so does a write of a
+    /// byte or more once no room is left.
     ///
     /// # Errors
     ///
@@ -121,7 +148,14 @@ impl MemSink {
         fails: Vec<u64>,
     ) -> Result<MemSink, AllocError>
         requires { 0 < piece }
-        ensures { IfOk result (λ sink. sink ≡ record { got = []; room = room; piece = piece; fails = fails.items; calls = 0; faults = 0 }) }
+        ensures { IfOk result (λ sink. sink ≡ record {
+          got = [];
+          room = room;
+          piece = piece;
+          fails = fails.items;
+          calls = 0;
+          faults = 0;
+        }) }
     {
         let bytes = Vec::with_capacity(alloc, room)?;
         Ok(MemSink {
@@ -152,13 +186,22 @@ impl Sink for MemSink {
         ensures bytes { WriteAppends (Some self.old.got) (Some self.new.got) result piece.now }
         ensures cause { HasCause self.old.faults self.new.faults result }
 
-        // Just the chosen writes and those without room fail, and each of the others takes all that it may.
-        ensures fails { IsErr result ↔ (Contains self.old.fails self.old.calls ⊎ ((self.old.room ≡ 0) × (0 < length piece.now))) }
-        ensures count { IfOk result (λ n. n ≡ min (min (length piece.now) self.old.piece) self.old.room) }
+        // Just the chosen writes and those without room fail, and the others take all that they may.
+        ensures fails { IsErr result
+            ↔ (Contains self.old.fails self.old.calls ⊎ ((self.old.room ≡ 0) × (0 < length piece.now))) }
+        ensures count { IfOk result (λ n.
+            n ≡ min (min (length piece.now) self.old.piece) self.old.room) }
 
         // What the sink is afterwards.
-        ensures ok { IfOk result (λ n. self.new ≡ record self.old { got = self.old.got ++ take n piece.now; room = self.old.room - n; calls = next_count self.old.calls }) }
-        ensures err { OnErr result (self.new ≡ record self.old { calls = next_count self.old.calls; faults = next_count self.old.faults }) }
+        ensures ok { IfOk result (λ n. self.new ≡ record self.old {
+          got = self.old.got ++ take n piece.now;
+          room = self.old.room - n;
+          calls = next_count self.old.calls;
+        }) }
+        ensures err { OnErr result (self.new ≡ record self.old {
+          calls = next_count self.old.calls;
+          faults = next_count self.old.faults;
+        }) }
     {
         let fails = self.fails.contains(&self.calls);
         let full = self.room == 0 && !piece.is_empty();

@@ -38,7 +38,8 @@ impl<R: Read + Drop> Source for StdSource<R> {
 
     fn read(&mut self, buf: &mut [u8]) -> Result<usize, Failed>
         ensures bound { ReadsAtMost result buf.new }
-        ensures bytes { ReadConsumes (R.remaining self.old.reader) (R.remaining self.new.reader) result buf.new }
+        ensures bytes { ReadConsumes
+            (R.remaining self.old.reader) (R.remaining self.new.reader) result buf.new }
         ensures cause { HasCause self.old.faults self.new.faults result }
         ensures counted { CountsFault self.old.faults self.new.faults result }
     {
@@ -81,7 +82,8 @@ impl<W: Write + Drop> Sink for StdSink<W> {
 
     fn write(&mut self, piece: &[u8]) -> Result<usize, Failed>
         ensures bound { TakesSome result piece.now }
-        ensures bytes { WriteAppends (W.contents self.old.writer) (W.contents self.new.writer) result piece.now }
+        ensures bytes { WriteAppends
+            (W.contents self.old.writer) (W.contents self.new.writer) result piece.now }
         ensures cause { HasCause self.old.faults self.new.faults result }
         ensures counted { CountsFault self.old.faults self.new.faults result }
     {

@@ -56,17 +56,22 @@ pub fn read_all<S: Source>(alloc: Global, source: &mut S, max: u64) -> Result<Ve
     ensures end { OnOk result (IsAtEnd (S.left source.new)) }
     ensures few { IfOk result (λ bytes. vec_len bytes ≤ max) }
 
-    // What was read where it gives no bytes. So `TooLong` comes just where `max + 1` bytes were read.
-    ensures too_long { IsErrOf result ReadAllError.TooLong → ConsumesExactly (S.left source.old) (S.left source.new) (max + 1) }
-    ensures fault_within { IsErrOf result ReadAllError.ReadFault → ConsumesAtMost (S.left source.old) (S.left source.new) max }
-    ensures memory_within { IsErrOf result ReadAllError.OutOfMemory → ConsumesAtMost (S.left source.old) (S.left source.new) (max + 1) }
+    // What was read where it gives no bytes: `TooLong` comes just where `max + 1` bytes were read.
+    ensures too_long { IsErrOf result ReadAllError.TooLong
+        → ConsumesExactly (S.left source.old) (S.left source.new) (max + 1) }
+    ensures fault_within { IsErrOf result ReadAllError.ReadFault
+        → ConsumesAtMost (S.left source.old) (S.left source.new) max }
+    ensures memory_within { IsErrOf result ReadAllError.OutOfMemory
+        → ConsumesAtMost (S.left source.old) (S.left source.new) (max + 1) }
 
     // What a source that knows its content held.
     ensures all { IfOk result (λ bytes. IfSome (S.left source.old) (λ all. bytes.items ≡ all)) }
     ensures fits { OnOk result (IfSome (S.left source.old) (λ all. length all ≤ max)) }
-    ensures too_many { IsErrOf result ReadAllError.TooLong → IfSome (S.left source.old) (λ all. max < length all) }
+    ensures too_many { IsErrOf result ReadAllError.TooLong
+        → IfSome (S.left source.old) (λ all. max < length all) }
 
-    ensures fault { IsErrOf result ReadAllError.ReadFault → Rose (S.faults source.old) (S.faults source.new) }
+    ensures fault { IsErrOf result ReadAllError.ReadFault
+        → Rose (S.faults source.old) (S.faults source.new) }
     ensures later { S.faults source.old ≤ S.faults source.new }
 {
     let mut bytes = Vec::new(alloc);
@@ -93,7 +98,8 @@ pub fn read_all<S: Source>(alloc: Global, source: &mut S, max: u64) -> Result<Ve
 /// `WriteFault` where a write failed: the sink got just the first `written` bytes.
 pub fn write_all<K: Sink>(sink: &mut K, bytes: &[u8]) -> Result<(), WriteFault>
     ensures all { OnOk result (Appends (K.got sink.old) (K.got sink.new) bytes.now) }
-    ensures part { IfErr result (λ fault. Appends (K.got sink.old) (K.got sink.new) (take fault.written bytes.now)) }
+    ensures part { IfErr result (λ fault.
+        Appends (K.got sink.old) (K.got sink.new) (take fault.written bytes.now)) }
     ensures short { IfErr result (λ fault. fault.written < length bytes.now) }
     ensures cause { HasCause (K.faults sink.old) (K.faults sink.new) result }
 {
