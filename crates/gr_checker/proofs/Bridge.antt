@@ -1,10 +1,5 @@
 -- What the first pass keeps stands for the items before.
-<<<<<<< HEAD
-use Rattle.std.proofs.Common.{flat_map, codes, ◌≡◌, ℕ, zero, suc, ◌+◌, ◌==◌, min, Bool, true, false, not, ◌&&◌, ◌||◌, nat_le, nat_lt, if◌then◌else◌, is_some, List, [], ◌∷◌, ◌++◌, length, Option, Some, None, refl, sym, ap, subst, ◌∙◌, arith, true≢false}
-use Rattle.std.specs.List.{list_any}
-=======
 use Rattle.std.proofs.Common.{codes, ◌≡◌, ℕ, ◌+◌, ◌==◌, min, Bool, true, false, not, ◌&&◌, ◌||◌, nat_le, nat_lt, if◌then◌else◌, is_some, List, [], ◌∷◌, ◌++◌, length, Option, Some, None, refl, sym, ap, subst, ◌∙◌, arith, true≢false}
->>>>>>> c21d6c970cc6f54ce963ef284abb51806c38ccc6
 use Rattle.std.specs.Str.{bytes_eq}
 use Rattle.std.proofs.lemmas.Bool.Decides.{nat_tests}
 use Rattle.std.proofs.lemmas.List.Folds.{list_any-append}
@@ -18,11 +13,7 @@ use Rattle.gr_lang.specs.Faults.{when}
 use Rattle.gr_lang.specs.Declarations.{Meaning, first_named, first_of, declaration}
 use Rattle.gr_checker.specs.Meanings.{named, with_meaning}
 use Rattle.gr_checker.specs.Heads.{item_declared, all_declared, none}
-<<<<<<< HEAD
-use Rattle.gr_lang.specs.Sites.{Site, ends}
-=======
 use Rattle.gr_lang.specs.Sites.{ends}
->>>>>>> c21d6c970cc6f54ce963ef284abb51806c38ccc6
 use Rattle.gr_lang.specs.Conditions.{faults_at, has_main, objects_in, tasks_in, words_in, inputs_in}
 use Rattle.gr_lang.specs.Accepted.{faults, sites, uses_sites, head_sites, heads_sites}
 use Rattle.gr_checker.specs.declared.heads.Heads.{Heads}

@@ -1,20 +1,12 @@
 -- What is visible only grows within a block.
-<<<<<<< HEAD
-use Rattle.std.proofs.Common.{◌≡◌, ℕ, zero, suc, Bool, true, false, if◌then◌else◌, List, [], ◌∷◌, ◌++◌, length, take, refl, ap, sym, subst, ◌∙◌}
-=======
 use Rattle.std.proofs.Common.{◌≡◌, ℕ, Bool, true, false, if◌then◌else◌, List, [], ◌∷◌, ◌++◌, length, take, refl, ap, sym, subst, ◌∙◌}
->>>>>>> c21d6c970cc6f54ce963ef284abb51806c38ccc6
 use Rattle.std.proofs.lemmas.List.{append-nil, append_assoc}
 use Rattle.gr_lang.specs.declared.syntax.Name.{Name}
 use Rattle.gr_lang.specs.declared.syntax.Stmt.{Stmt, fold-Stmt, out-Stmt, roll-Stmt, roll-out-Stmt}
 use Rattle.gr_lang.specs.declared.syntax.Stmt.TheFolds.{fold-roll-Stmt}
 use Rattle.gr_lang.specs.declared.syntax.Stmt.TheOpen.{Stmt-F}
 use Rattle.gr_lang.specs.Names.{has, with_name}
-<<<<<<< HEAD
-use Rattle.gr_lang.specs.Walks.{Look, Scope, both, givens, stmt, stmts, stmt_step}
-=======
 use Rattle.gr_lang.specs.Walks.{Look, Scope, givens, stmt, stmts, stmt_step}
->>>>>>> c21d6c970cc6f54ce963ef284abb51806c38ccc6
 
 record Grows (a b : List (List ℕ)) : Type 0 where
   more : List (List ℕ)

@@ -1,17 +1,9 @@
 -- The least of a list is its first.
-<<<<<<< HEAD
-use Rattle.std.proofs.Common.{◌==◌, nat_lt, subst, slice_index_or, ◌≡◌, ℕ, zero, suc, ◌<◌, Bool, true, false, if◌then◌else◌, List, [], ◌∷◌, length, Option, Some, None, Contains, refl, sym, ap, ◌∙◌, arith, true≢false}
-use Rattle.std.specs.List.{All}
-use Rattle.std.proofs.lemmas.Bool.Decides.{nat_tests}
-use Rattle.gr_lang.specs.Faults.{comes_before, rank, IsFirst}
-use Rattle.gr_checker.specs.Earliest.{noted, least}
-=======
 use Rattle.std.proofs.Common.{◌==◌, nat_lt, subst, slice_index_or, ◌≡◌, ℕ, zero, suc, ◌<◌, Bool, true, false, if◌then◌else◌, List, [], ◌∷◌, length, Some, None, Contains, refl, sym, ap, ◌∙◌, arith}
 use Rattle.std.specs.List.{All}
 use Rattle.std.proofs.lemmas.Bool.Decides.{nat_tests}
 use Rattle.gr_lang.specs.Faults.{comes_before, rank, IsFirst}
 use Rattle.gr_checker.specs.Earliest.{least}
->>>>>>> c21d6c970cc6f54ce963ef284abb51806c38ccc6
 use Rattle.gr_lang.specs.declared.refusal.Fault.{Fault}
 use Rattle.gr_lang.specs.declared.refusal.Kind.{Kind}
 use Rattle.gr_lang.specs.declared.refusal.Kind.TheVariants as k

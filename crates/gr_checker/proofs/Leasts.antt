@@ -1,9 +1,5 @@
 -- The first of two lists, one after the other.
-<<<<<<< HEAD
-use Rattle.std.proofs.Common.{◌≡◌, List, [], ◌∷◌, ◌++◌, Option, flat_map, refl, ◌∙◌, sym, ap}
-=======
 use Rattle.std.proofs.Common.{◌≡◌, List, [], ◌∷◌, ◌++◌, Option, flat_map, refl, ◌∙◌, sym}
->>>>>>> c21d6c970cc6f54ce963ef284abb51806c38ccc6
 use Rattle.gr_checker.specs.Earliest.{least, noted, seen}
 use Rattle.gr_lang.specs.Declarations.{Meaning}
 use Rattle.gr_lang.specs.Sites.{Site}

@@ -1,9 +1,5 @@
 -- What a walk over a list has left, one item on.
-<<<<<<< HEAD
-use Rattle.std.proofs.Common.{◌≡◌, ℕ, suc, ◌+◌, ◌<◌, List, [], ◌∷◌, ◌++◌, length, drop, get_or, Option, ◌∙◌, ap, add-one}
-=======
 use Rattle.std.proofs.Common.{◌≡◌, ℕ, suc, ◌+◌, ◌<◌, List, length, drop, get_or, Option, add-one}
->>>>>>> c21d6c970cc6f54ce963ef284abb51806c38ccc6
 use Rattle.std.proofs.Math.Seq.{drop-cons}
 use Rattle.gr_lang.specs.declared.syntax.Expr.{Expr}
 use Rattle.gr_lang.specs.declared.syntax.Stmt.{Stmt}

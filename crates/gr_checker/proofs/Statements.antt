@@ -1,9 +1,5 @@
 -- One level of a statement, as a walk after walks.
-<<<<<<< HEAD
-use Rattle.std.proofs.Common.{refl, ◌∷◌, ◌≡◌, ℕ, Bool, List, [], ◌++◌, map, Option, ◌∙◌, ap}
-=======
 use Rattle.std.proofs.Common.{refl, ◌∷◌, ◌≡◌, Bool, List, [], map, ap}
->>>>>>> c21d6c970cc6f54ce963ef284abb51806c38ccc6
 use Rattle.gr_lang.specs.declared.syntax.Name.{Name}
 use Rattle.gr_lang.specs.declared.syntax.Expr.{Expr}
 use Rattle.gr_lang.specs.declared.syntax.Right.{Right}
@@ -12,11 +8,7 @@ use Rattle.gr_lang.specs.declared.syntax.CallText.{CallText}
 use Rattle.gr_lang.specs.declared.syntax.Stmt.{Stmt, the_lemmas}
 use Rattle.gr_lang.specs.declared.syntax.Stmt.TheVariants as s
 use Rattle.gr_lang.specs.Declarations.{Meaning}
-<<<<<<< HEAD
-use Rattle.gr_lang.specs.Walks.{Look, only, both, all, closed, block, targets, expr_sites, call_sites, right_sites, spawn_sites, forall_sites, stmt, stmts}
-=======
 use Rattle.gr_lang.specs.Walks.{Look, only, both, all, closed, targets, expr_sites, call_sites, right_sites, spawn_sites, forall_sites, stmt, stmts}
->>>>>>> c21d6c970cc6f54ce963ef284abb51806c38ccc6
 use Rattle.gr_checker.specs.Walked.{scope_of, after}
 use Rattle.gr_checker.specs.declared.walk.Walk.{Walk}
 use Rattle.gr_checker.proofs.Leasts.{seen-append}

@@ -1,9 +1,5 @@
 -- Texts that are lent, and the texts themselves.
-<<<<<<< HEAD
-use Rattle.std.proofs.Common.{Option, Some, None, is_some, true≢false, ◌≡◌, ℕ, Bool, true, false, List, [], ◌∷◌, ◌++◌, map, take, if◌then◌else◌, cond, ◌||◌, Bor, refl, ap, sym, ◌∙◌}
-=======
 use Rattle.std.proofs.Common.{Some, is_some, true≢false, ◌≡◌, ℕ, Bool, true, false, List, [], ◌∷◌, ◌++◌, map, take, if◌then◌else◌, ◌||◌, Bor, refl, ap, sym}
->>>>>>> c21d6c970cc6f54ce963ef284abb51806c38ccc6
 use Rattle.std.specs.List.{list_any}
 use Rattle.std.specs.Str.{bytes_eq}
 use Rattle.std.specs.Map.{lookup}

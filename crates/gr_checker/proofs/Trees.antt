@@ -1,9 +1,5 @@
 -- One level of an expression.
-<<<<<<< HEAD
-use Rattle.std.proofs.Common.{◌≡◌, ℕ, List, [], ◌∷◌, ◌++◌, Option, ◌∙◌, ap}
-=======
 use Rattle.std.proofs.Common.{◌≡◌, ℕ, List, [], ◌∷◌, ◌++◌}
->>>>>>> c21d6c970cc6f54ce963ef284abb51806c38ccc6
 use Rattle.gr_lang.specs.declared.syntax.Expr.{Expr, the_lemmas}
 use Rattle.gr_lang.specs.declared.syntax.Expr.TheVariants as e
 use Rattle.gr_lang.specs.declared.syntax.BinOp.{BinOp}

@@ -1,9 +1,5 @@
 -- The earliest of the faults that were noted so far, one fault and one site after the other.
-<<<<<<< HEAD
-use Rattle.std.specs.Prelude.{Bool, if◌then◌else◌, List, [], ◌∷◌, Option, Some, None}
-=======
 use Rattle.std.specs.Prelude.{if◌then◌else◌, List, [], ◌∷◌, Option, Some, None}
->>>>>>> c21d6c970cc6f54ce963ef284abb51806c38ccc6
 use Rattle.gr_lang.specs.Conditions.{faults_at}
 use Rattle.gr_lang.specs.Declarations.{Meaning}
 use Rattle.gr_lang.specs.Faults.{comes_before}

@@ -1,9 +1,5 @@
 -- What the pass over the heads of the items keeps, item by item. Counts and the sum of words stop at one more than what is allowed.
-<<<<<<< HEAD
-use Rattle.std.specs.Prelude.{None, ℕ, ◌+◌, ◌≤◌, ◌^◌, ◌==◌, min, Bool, ◌&&◌, nat_le, nat_lt, is_some, List, [], ◌∷◌, length, codes}
-=======
 use Rattle.std.specs.Prelude.{None, ℕ, ◌+◌, ◌≤◌, ◌^◌, ◌==◌, min, ◌&&◌, nat_le, nat_lt, is_some, List, [], ◌∷◌, length, codes}
->>>>>>> c21d6c970cc6f54ce963ef284abb51806c38ccc6
 use Rattle.gr_lang.specs.declared.syntax.Item.{Item}
 use Rattle.gr_lang.specs.declared.syntax.Item.TheVariants as i
 use Rattle.gr_lang.specs.declared.syntax.Name.{Name}

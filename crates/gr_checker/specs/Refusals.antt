@@ -1,8 +1,4 @@
 -- What a refusal says of the program.
-<<<<<<< HEAD
-use Rattle.std.specs.Prelude.{ℕ}
-=======
->>>>>>> c21d6c970cc6f54ce963ef284abb51806c38ccc6
 use Rattle.gr_lang.specs.declared.syntax.Program.{Program}
 use Rattle.gr_lang.specs.Faults.{fault, IsFirst}
 use Rattle.gr_lang.specs.Accepted.{faults}

@@ -86,8 +86,6 @@ fn check_right(
     }
 }
 
-<<<<<<< HEAD
-=======
 fn check_set<'a>(
     meanings: &Meanings<'a>,
     walk: &mut Walk<'a>,
@@ -102,7 +100,6 @@ fn check_set<'a>(
     Ok(())
 }
 
->>>>>>> c21d6c970cc6f54ce963ef284abb51806c38ccc6
 fn check_how(meanings: &Meanings, found: &mut Earliest, visible: &NameSet, how: &HowText)
     ensures { found.new ≡ seen (named meanings.now) found.old (spec.how_sites how.now visible.now) }
 {
@@ -164,18 +161,7 @@ pub fn check_stmt<'a>(
             targets,
             right,
         } => {
-<<<<<<< HEAD
-            check_right(
-                meanings,
-                &mut walk.found,
-                &walk.visible,
-                targets.as_slice(),
-                right,
-            );
-            check_targets(meanings, walk, *fresh, targets.as_slice())?;
-=======
             check_set(meanings, walk, *fresh, targets.as_slice(), right)?;
->>>>>>> c21d6c970cc6f54ce963ef284abb51806c38ccc6
             Ok(())
         }
         Stmt::Do { call } => {

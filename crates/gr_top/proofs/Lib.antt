@@ -2,7 +2,6 @@ pub mod Firsts
 pub mod Straight
 pub mod Alone
 pub mod TextOnce
-pub mod GrammarOnce
 pub mod Once
 pub mod Dues
 pub mod Runs

@@ -1,5 +1,5 @@
 -- A text reads as one thing: one accepted program, or one first fault.
-use Rattle.std.proofs.Common.{◌≡◌, ℕ, List, Ok, Err, refl, sym, ap, subst, ◌∙◌}
+use Rattle.std.proofs.Common.{◌≡◌, ◌≢◌, ℕ, List, Ok, Err, refl, sym, ap, subst, ◌∙◌}
 use Rattle.gr_lang.specs.declared.syntax.Program.{Program}
 use Rattle.gr_lang.specs.declared.syntax.Place.{Place}
 use Rattle.gr_lang.specs.declared.refusal.Kind.{Kind}
@@ -18,7 +18,7 @@ use Rattle.gr_checker.proofs.Firsts.{first-unique, first-some}
 use Rattle.gr_top.specs.Due.{Reading, accepted, refused}
 use Rattle.gr_top.specs.Readings.{ReadsAs}
 use Rattle.gr_top.proofs.TextOnce.{text_once}
-use Rattle.gr_top.proofs.GrammarOnce.{program_once, unexpected_once, end_once, faults_apart, no_unexpected, no_end_fault}
+use Rattle.gr_parse.proofs.Unique.{one_program, one_fault, no_program}
 
 -- What the tokens of a text lead to.
 data FromTokens (text : List ℕ) (tokens : List Token) : Reading → Type 0 where
@@ -33,25 +33,40 @@ same_place kind p q e = ap (λ (x : Place). refused (fault kind x)) e
 no_first : (p : Program) (f : Fault) → IsAccepted p → IsFirst f (faults p) → ⊥
 no_first p f a h = first-some (faults p) f h a.no_faults
 
+memory_apart : (l c : ℕ) → parse_errors.Unexpected l c ≢ parse_errors.OutOfMemory
+memory_apart l c e = cc
+
+end_memory_apart : (l c : ℕ) → parse_errors.UnexpectedEnd l c ≢ parse_errors.OutOfMemory
+end_memory_apart l c e = cc
+
+ends_apart : (l c m d : ℕ) → parse_errors.Unexpected l c ≡ parse_errors.UnexpectedEnd m d → ⊥
+ends_apart l c m d e = cc
+
+same_unexpected : (l c m d : ℕ) → parse_errors.Unexpected l c ≡ parse_errors.Unexpected m d → ◌≡◌ {A = Place} (record { line = l; column = c }) (record { line = m; column = d })
+same_unexpected l c m d e = let x : l ≡ m = cc in let y : c ≡ d = cc in λ i. record { line = x i; column = y i }
+
+same_end : (l c m d : ℕ) → parse_errors.UnexpectedEnd l c ≡ parse_errors.UnexpectedEnd m d → ◌≡◌ {A = Place} (record { line = l; column = c }) (record { line = m; column = d })
+same_end l c m d e = let x : l ≡ m = cc in let y : c ≡ d = cc in λ i. record { line = x i; column = y i }
+
 module _ (text : List ℕ) (tokens : List Token) (are : AreTokens text tokens) where
   tokens_once : (r q : Reading) → FromTokens text tokens r → FromTokens text tokens q → r ≡ q
-  tokens_once _ _ (FromTokens.unexpected {l} {c} x) (FromTokens.unexpected {l = m} {c = d} y) = same_place k.Unexpected _ _ (unexpected_once text tokens are l c m d x y)
-  tokens_once _ _ (FromTokens.unexpected {l} {c} x) (FromTokens.ended {l = m} {c = d} y) = absurd (faults_apart text tokens are l c m d x y)
-  tokens_once _ _ (FromTokens.unexpected {l} {c} x) (FromTokens.checked {p} y f) = absurd (no_unexpected text tokens are p l c y x)
-  tokens_once _ _ (FromTokens.unexpected {l} {c} x) (FromTokens.program {p} y a) = absurd (no_unexpected text tokens are p l c y x)
-  tokens_once _ _ (FromTokens.ended {l} {c} x) (FromTokens.unexpected {l = m} {c = d} y) = absurd (faults_apart text tokens are m d l c y x)
-  tokens_once _ _ (FromTokens.ended {l} {c} x) (FromTokens.ended {l = m} {c = d} y) = same_place k.UnexpectedEnd _ _ (end_once text tokens are l c m d x y)
-  tokens_once _ _ (FromTokens.ended {l} {c} x) (FromTokens.checked {p} y f) = absurd (no_end_fault text tokens are p l c y x)
-  tokens_once _ _ (FromTokens.ended {l} {c} x) (FromTokens.program {p} y a) = absurd (no_end_fault text tokens are p l c y x)
-  tokens_once _ _ (FromTokens.checked {p} x f) (FromTokens.unexpected {l = m} {c = d} y) = absurd (no_unexpected text tokens are p m d x y)
-  tokens_once _ _ (FromTokens.checked {p} x f) (FromTokens.ended {l = m} {c = d} y) = absurd (no_end_fault text tokens are p m d x y)
+  tokens_once _ _ (FromTokens.unexpected {l} {c} x) (FromTokens.unexpected {l = m} {c = d} y) = same_place k.Unexpected _ _ (same_unexpected l c m d (one_fault text tokens are _ _ (memory_apart l c) (memory_apart m d) x y))
+  tokens_once _ _ (FromTokens.unexpected {l} {c} x) (FromTokens.ended {l = m} {c = d} y) = absurd (ends_apart l c m d (one_fault text tokens are _ _ (memory_apart l c) (end_memory_apart m d) x y))
+  tokens_once _ _ (FromTokens.unexpected {l} {c} x) (FromTokens.checked {p} y f) = absurd (no_program text tokens are _ (memory_apart l c) x p y)
+  tokens_once _ _ (FromTokens.unexpected {l} {c} x) (FromTokens.program {p} y a) = absurd (no_program text tokens are _ (memory_apart l c) x p y)
+  tokens_once _ _ (FromTokens.ended {l} {c} x) (FromTokens.unexpected {l = m} {c = d} y) = absurd (ends_apart m d l c (one_fault text tokens are _ _ (memory_apart m d) (end_memory_apart l c) y x))
+  tokens_once _ _ (FromTokens.ended {l} {c} x) (FromTokens.ended {l = m} {c = d} y) = same_place k.UnexpectedEnd _ _ (same_end l c m d (one_fault text tokens are _ _ (end_memory_apart l c) (end_memory_apart m d) x y))
+  tokens_once _ _ (FromTokens.ended {l} {c} x) (FromTokens.checked {p} y f) = absurd (no_program text tokens are _ (end_memory_apart l c) x p y)
+  tokens_once _ _ (FromTokens.ended {l} {c} x) (FromTokens.program {p} y a) = absurd (no_program text tokens are _ (end_memory_apart l c) x p y)
+  tokens_once _ _ (FromTokens.checked {p} x f) (FromTokens.unexpected {l = m} {c = d} y) = absurd (no_program text tokens are _ (memory_apart m d) y p x)
+  tokens_once _ _ (FromTokens.checked {p} x f) (FromTokens.ended {l = m} {c = d} y) = absurd (no_program text tokens are _ (end_memory_apart m d) y p x)
   tokens_once _ _ (FromTokens.checked {p} {f} x h) (FromTokens.checked {p = q} {f = g} y i) =
-      ap (λ (z : Fault). refused z) (first-unique (faults q) f g (subst (λ (z : Program). IsFirst f (faults z)) (program_once text tokens are p q x y) h) i)
-  tokens_once _ _ (FromTokens.checked {p} {f} x h) (FromTokens.program {p = q} y a) = absurd (no_first q f a (subst (λ (z : Program). IsFirst f (faults z)) (program_once text tokens are p q x y) h))
-  tokens_once _ _ (FromTokens.program {p} x a) (FromTokens.unexpected {l = m} {c = d} y) = absurd (no_unexpected text tokens are p m d x y)
-  tokens_once _ _ (FromTokens.program {p} x a) (FromTokens.ended {l = m} {c = d} y) = absurd (no_end_fault text tokens are p m d x y)
-  tokens_once _ _ (FromTokens.program {p} x a) (FromTokens.checked {p = q} {f = g} y i) = absurd (no_first p g a (subst (λ (z : Program). IsFirst g (faults z)) (sym (program_once text tokens are p q x y)) i))
-  tokens_once _ _ (FromTokens.program {p} x a) (FromTokens.program {p = q} y b) = ap (λ (z : Program). accepted z) (program_once text tokens are p q x y)
+      ap (λ (z : Fault). refused z) (first-unique (faults q) f g (subst (λ (z : Program). IsFirst f (faults z)) (one_program text tokens p q x y) h) i)
+  tokens_once _ _ (FromTokens.checked {p} {f} x h) (FromTokens.program {p = q} y a) = absurd (no_first q f a (subst (λ (z : Program). IsFirst f (faults z)) (one_program text tokens p q x y) h))
+  tokens_once _ _ (FromTokens.program {p} x a) (FromTokens.unexpected {l = m} {c = d} y) = absurd (no_program text tokens are _ (memory_apart m d) y p x)
+  tokens_once _ _ (FromTokens.program {p} x a) (FromTokens.ended {l = m} {c = d} y) = absurd (no_program text tokens are _ (end_memory_apart m d) y p x)
+  tokens_once _ _ (FromTokens.program {p} x a) (FromTokens.checked {p = q} {f = g} y i) = absurd (no_first p g a (subst (λ (z : Program). IsFirst g (faults z)) (sym (one_program text tokens p q x y)) i))
+  tokens_once _ _ (FromTokens.program {p} x a) (FromTokens.program {p = q} y b) = ap (λ (z : Program). accepted z) (one_program text tokens p q x y)
 
 -- A text has a fault in its tokens, or tokens that lead to something.
 data ByTokens (text : List ℕ) : Outcome → Reading → Type 0 where

@@ -1,28 +1,3 @@
-<<<<<<< HEAD
-use Rattle.std.proofs.Common.{arith, subst, take, length, ◌≡◌, ◌+◌, ◌∙◌, ap, sym, drop, get_or}
-use Rattle.gr_checker.specs.Meanings.{named}
-use Rattle.gr_lang.specs.Walks.{expr_sites, only, both, closed, targets, right_sites, stmt, stmts}
-use Rattle.gr_checker.specs.Walked.{after, scope_of}
-use Rattle.gr_checker.specs.Earliest.{seen}
-use Rattle.gr_checker.proofs.Cases.{restored}
-use Rattle.gr_checker.proofs.Nexts.{stmts-next}
-use Rattle.gr_checker.proofs.Statements.{stmt-Set1, stmt-If, stmt-While, after-both}
-use Rattle.gr_checker.proofs.walk.+statements.Goals as goal
-
-pub check_stmt-returns-in_ok-check_targets-in-Set1 : goal.check_stmt-returns-in_ok-check_targets-in-Set1
-check_stmt-returns-in_ok-check_targets-in-Set1 t c =
-    let m = named c.args.meanings.now in
-    let w = c.args.walk.now in
-    let names = c.in-Set1.targets in
-    let right = c.in-Set1.right in
-    let first = subst (λ ns. c.check_right.new.found ≡ seen m w.found (right_sites ns right w.visible)) c.as_slice.ensures c.check_right.ensures in
-    let second = subst (λ ns. c.check_targets.new.walk ≡ after m (record { found = c.check_right.new.found; named = w.named; visible = w.visible }) (targets c.in-Set1.fresh ns))
-    c.as_slice-in-Set1.ensures c.in_ok-check_targets-in-Set1.ensures in
-    rw (c.in-Set1.is, stmt-Set1) (second
-    ∙ ap (λ x. after m (record { found = x; named = w.named; visible = w.visible }) (targets c.in-Set1.fresh names)) first
-    ∙ sym (after-both m w (only (right_sites names right)) (targets c.in-Set1.fresh names)))
-
-=======
 use Rattle.std.proofs.Common.{arith, take, length, ◌≡◌, ◌+◌, ◌∙◌, ap, sym, drop, get_or}
 use Rattle.gr_checker.specs.Meanings.{named}
 use Rattle.gr_lang.specs.Walks.{expr_sites, only, both, closed, stmt, stmts}
@@ -32,7 +7,6 @@ use Rattle.gr_checker.proofs.Nexts.{stmts-next}
 use Rattle.gr_checker.proofs.Statements.{stmt-If, stmt-While, after-both}
 use Rattle.gr_checker.proofs.walk.+statements.Goals as goal
 
->>>>>>> c21d6c970cc6f54ce963ef284abb51806c38ccc6
 pub check_stmt-returns-in_ok-check_block-in-If-2 : goal.check_stmt-returns-in_ok-check_block-in-If-2
 check_stmt-returns-in_ok-check_block-in-If-2 t c =
     let m = named c.args.meanings.now in

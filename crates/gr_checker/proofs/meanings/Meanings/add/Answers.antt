@@ -1,9 +1,4 @@
-<<<<<<< HEAD
-use Rattle.std.proofs.Common.{refl, ◌∙◌, ap, sym, is_some, true, false, map, if◌then◌else◌, ◌++◌, ◌∷◌, []}
-use Rattle.gr_checker.specs.Meanings.{named, with_meaning}
-=======
 use Rattle.std.proofs.Common.{refl, ◌∙◌, ap, sym, is_some, map}
->>>>>>> c21d6c970cc6f54ce963ef284abb51806c38ccc6
 use Rattle.gr_checker.proofs.Texts.{named-map, new-map, entry_at}
 use Rattle.gr_checker.proofs.meanings.Meanings.add.Goals as goal
 use Rattle.gr_checker.proofs.meanings.Meanings.add.Goals.{in-Ok, in-Err}
