@@ -1,3 +1,4 @@
 pub mod Tok
+pub mod Sound
 pub mod Parsing
 pub mod Grammar

@@ -4,6 +4,8 @@
 
 pub mod fault;
 mod laws;
+mod meaning;
+mod rest;
 
 pub use fault::ParseError;
 pub use laws::law;
