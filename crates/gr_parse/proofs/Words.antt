@@ -22,3 +22,7 @@ pub word_no_operator : (level : ℕ) (at : Place) (w : Keyword) → operator lev
 unfolding operator
 word_no_operator level at k.Heap = refl
 word_no_operator level at _ = refl
+
+pub word_no_atom : (at : Place) (w : Keyword) → atom_of (tok_of_word at w) ≡ None
+word_no_atom at k.Heap = refl
+word_no_atom at _ = refl

@@ -3,6 +3,7 @@
 #![tactic(auto)]
 
 pub mod fault;
+mod expressions;
 mod laws;
 mod meaning;
 mod rest;

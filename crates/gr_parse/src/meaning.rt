@@ -1,14 +1,14 @@
 //! What one token means.
 
-ghost use Rattle.std.specs.Prelude.{◌≡◌, List, ℕ, IfOk};
+ghost use Rattle.std.specs.Prelude.{◌≡◌, List, ℕ, IfOk, slice_range};
 ghost use Rattle.std.specs.Str.{IsUtf8};
 ghost use Rattle.std.specs.Option.{option_map};
 ghost use Rattle.gr_lang.specs.declared.syntax.Place.{Place as PlaceValue};
 ghost use Rattle.gr_parse.specs.Tok as tok;
 ghost use Rattle.gr_parse.specs.Tok.{tok_of, heap_name};
-ghost use Rattle.gr_parse.specs.Sound.{IsSound};
+ghost use Rattle.gr_parse.specs.Sound.{IsNamed, IsSound};
 
-use gr_lang::syntax::{BinOp, Name, Number, Place, Text};
+use gr_lang::syntax::{BinOp, Expr, Name, Number, Place, Text};
 use gr_text::token::{Keyword, Sign, Token, TokenKind};
 use std::alloc::{AllocError, Global};
 
@@ -66,18 +66,71 @@ pub fn name_of(alloc: Global, text: &[u8], token: &Token) -> Result<Option<Name>
     ensures { IfOk result (λ name. name ≡ tok.name_of (tok_of text.now token.now)) }
 {
     match token.kind {
-        TokenKind::Name => {
-            let word = letters(alloc, &text[token.from as usize..token.to as usize])?;
-            Ok(Some(Name {
-                text: word,
-                at: token.at,
-            }))
-        }
+        TokenKind::Name => Ok(Some(named(alloc, text, token)?)),
         TokenKind::Number { .. } => Ok(None),
         TokenKind::Keyword { .. } => Ok(None),
         TokenKind::Sign { .. } => Ok(None),
         TokenKind::End => Ok(None),
     }
+}
+
+/// A number or a local as an operand.
+#[tactic(auto, using(crate::proofs::Words::word_no_atom))]
+pub fn atom_of(alloc: Global, text: &[u8], token: &Token) -> Result<Option<Expr>, AllocError>
+    requires { IsSound text.now token.now }
+    ensures { IfOk result (λ atom. atom ≡ tok.atom_of (tok_of text.now token.now)) }
+{
+    match token.kind {
+        TokenKind::Name => {
+            let name = named(alloc, text, token)?;
+            Ok(Some(Expr::Local { name }))
+        }
+        TokenKind::Number { value } => {
+            let number = Number {
+                value,
+                at: token.at,
+            };
+            Ok(Some(Expr::Lit { number }))
+        }
+        TokenKind::Keyword { .. } => Ok(None),
+        TokenKind::Sign { .. } => Ok(None),
+        TokenKind::End => Ok(None),
+    }
+}
+
+/// The object that a call begins with.
+pub fn object_of(alloc: Global, text: &[u8], token: &Token) -> Result<Option<Name>, AllocError>
+    requires { IsSound text.now token.now }
+    ensures { IfOk result (λ name. name ≡ tok.object_of (tok_of text.now token.now)) }
+{
+    match token.kind {
+        TokenKind::Name => Ok(Some(named(alloc, text, token)?)),
+        TokenKind::Number { .. } => Ok(None),
+        TokenKind::Keyword { word } => heap_object(alloc, word, token.at),
+        TokenKind::Sign { .. } => Ok(None),
+        TokenKind::End => Ok(None),
+    }
+}
+
+fn heap_object(alloc: Global, word: Keyword, at: Place) -> Result<Option<Name>, AllocError>
+    ensures { IfOk result (λ name. name ≡ tok.object_of (tok.tok_of_word at word)) }
+{
+    match word {
+        Keyword::Heap => Ok(Some(make_heap_name(alloc, at)?)),
+        _ => Ok(None),
+    }
+}
+
+/// The name that the token is.
+fn named(alloc: Global, text: &[u8], token: &Token) -> Result<Name, AllocError>
+    requires { IsNamed text.now token.now }
+    ensures { IfOk result (λ name. name ≡ record { text = slice_range text.now token.now.from token.now.to; at = token.now.at }) }
+{
+    let word = letters(alloc, &text[token.from as usize..token.to as usize])?;
+    Ok(Name {
+        text: word,
+        at: token.at,
+    })
 }
 
 /// The text of these bytes, which are in UTF-8, so that none is replaced.

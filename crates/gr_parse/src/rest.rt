@@ -10,8 +10,8 @@ ghost use Rattle.gr_parse.specs.Parsing as spec;
 ghost use Rattle.gr_parse.specs.Parsing.{Gives};
 
 use crate::fault::Stop;
-use crate::meaning::{heap_of, is_sign, is_word, name_of, number_of, operator};
-use gr_lang::syntax::{BinOp, Name, Number, Place};
+use crate::meaning::{atom_of, heap_of, is_sign, is_word, name_of, number_of, object_of, operator};
+use gr_lang::syntax::{BinOp, Expr, Name, Number, Place};
 use gr_text::token::{Keyword, Sign, Token};
 use std::alloc::{AllocError, Global};
 use std::marker::Model;
@@ -115,6 +115,28 @@ impl<'a> Rest<'a> {
         match self.tokens {
             [] => Ok(None),
             [token, ..] => name_of(alloc, self.text, token),
+        }
+    }
+
+    /// The operand of one token that comes next, if one does.
+    #[tactic(auto, unfolding(crate::specs::Tok::toks, gr_meets::specs::Parsers::peek))]
+    pub fn atom_ahead(&self, alloc: Global) -> Result<Option<Expr>, AllocError>
+        ensures { IfOk result (λ atom. atom ≡ read.peek tok.atom_of self.now) }
+    {
+        match self.tokens {
+            [] => Ok(None),
+            [token, ..] => atom_of(alloc, self.text, token),
+        }
+    }
+
+    /// The object of a call that comes next, if one does.
+    #[tactic(auto, unfolding(crate::specs::Tok::toks, gr_meets::specs::Parsers::peek))]
+    pub fn object_ahead(&self, alloc: Global) -> Result<Option<Name>, AllocError>
+        ensures { IfOk result (λ name. name ≡ read.peek tok.object_of self.now) }
+    {
+        match self.tokens {
+            [] => Ok(None),
+            [token, ..] => object_of(alloc, self.text, token),
         }
     }
 
