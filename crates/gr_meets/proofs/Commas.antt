@@ -1,12 +1,12 @@
 -- Lists with commas: what was read is spelled so, what is spelled is read, and enough turns are enough.
-use Rattle.std.proofs.Common.{◌≡◌, ℕ, zero, suc, ◌+◌, ◌-◌, ◌<◌, ◌≤◌, Bool, true, false, not, cond, List, [], ◌∷◌, ◌++◌, length, Option, Some, None, Result, Ok, Err, refl, sym, ap, subst, ◌∙◌, append_assoc, arith}
+use Rattle.std.proofs.Common.{◌≡◌, ℕ, ◌+◌, ◌-◌, ◌<◌, ◌≤◌, Bool, true, false, not, cond, List, [], ◌∷◌, ◌++◌, length, Ok, Err, refl, sym, ap, subst, ◌∙◌, append_assoc, arith}
 use Rattle.std.proofs.lemmas.List.{append-nil, length-append}
-use Rattle.gr_meets.specs.Parsers.{Outcome, Parser, and_then, ◌>>=◌, ◌>>◌, pure, skip, refuse, sees, next, expect, either, halts, run, other, commas, separated, enclosed}
-use Rattle.gr_meets.specs.Languages.{Alike, Tests, Read, Meets, Completes, Agree, Shortens, Takes}
+use Rattle.gr_meets.specs.Parsers.{Outcome, Parser, and_then, ◌>>=◌, ◌>>◌, pure, sees, next, expect, halts, run, other, commas, separated, enclosed}
+use Rattle.gr_meets.specs.Languages.{Tests, Meets, Completes, Agree, Shortens, Takes}
 use Rattle.gr_meets.specs.Lists.{Repeated, Extends, Begins, Behind, Separated, Enclosed}
-use Rattle.gr_meets.proofs.Meets.{weaken, meets_pure, meets_refuse, expect_then, either_meets, bind_also}
-use Rattle.gr_meets.proofs.Completes.{expect_reads, either_first, either_second, reads_then, reads_last, then_reads}
-use Rattle.gr_meets.proofs.Agrees.{agree_bind, agree_self, agree_expect, agree_either, shortens, takes}
+use Rattle.gr_meets.proofs.Meets.{weaken, meets_pure, expect_then, either_meets, bind_also}
+use Rattle.gr_meets.proofs.Completes.{expect_reads, either_first, either_second, reads_then}
+use Rattle.gr_meets.proofs.Agrees.{agree_bind, agree_self, agree_expect, agree_either}
 use Rattle.gr_meets.proofs.Runs.{run_extends, run_reads, run_agree, run_end, run_go}
 
 -- ---- one turn

@@ -3,3 +3,7 @@ pub mod Completes
 pub mod Agrees
 pub mod Runs
 pub mod Commas
+pub mod Chains
+pub mod Levels
+pub mod FirstFaults
+pub mod Examples

@@ -59,3 +59,10 @@ pub record Shortens {T A : Type 0} (P : Parser T A) : Type 0 where
 -- The parser takes a token at least.
 pub record Takes {T A : Type 0} (P : Parser T A) : Type 0 where
   pub less : (ts : List T) (x : A) (rest : List T) → P ts ≡ Ok (x, rest) → length rest < length ts
+
+-- A parser for each bound of the turns that reads exactly the language, up to the end of the tokens.
+pub record Exact {T A : Type 0} (P : ℕ → Parser T A) (W : List T → A → Type 0) : Type 0 where
+  pub meets : (n : ℕ) → Meets (P n) W W
+  pub reads : (n : ℕ) (ts : List T) (x : A) → W ts x → length ts < n → P n ts ≡ Ok (x, [])
+  pub agree : (n m : ℕ) → Agree n m (P n) (P m)
+  pub ends : (n : ℕ) (ts : List T) (x : A) (rest : List T) → P n ts ≡ Ok (x, rest) → rest ≡ []

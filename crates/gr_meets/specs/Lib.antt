@@ -2,3 +2,4 @@ pub mod Parsers
 pub mod Languages
 pub mod Lists
 pub mod Faults
+pub mod Example

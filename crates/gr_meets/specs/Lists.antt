@@ -1,6 +1,6 @@
 -- Languages of lists of elements and of chains of binary signs, made of the language of their parts.
-use Rattle.std.specs.Prelude.{◌≡◌, ℕ, zero, suc, ◌+◌, Bool, false, List, [], ◌∷◌, ◌++◌, Option, Some}
-use Rattle.gr_meets.specs.Parsers.{halts}
+use Rattle.std.specs.Prelude.{◌≡◌, ℕ, zero, suc, ◌+◌, ◌<◌, Bool, false, List, [], ◌∷◌, ◌++◌, Option, Some, None}
+use Rattle.gr_meets.specs.Parsers.{halts, peek}
 
 -- Elements, one behind the other.
 pub data Repeated {T A : Type 0} (E : List T → A → Type 0) : List T → List A → Type 0 where
@@ -47,3 +47,11 @@ pub data Behind {T A : Type 0} (comma : T) (E : List T → A → Type 0) : List 
 abbrev pub Levels : {T A O : Type 0} → (ℕ → T → Option O) → (O → A → A → A) → (List T → A → ℕ → Type 0) → ℕ → List T → A → ℕ → Type 0
 Levels sign two E zero = E
 Levels sign two E (suc l) = Chained (sign l) two (Levels sign two E l)
+
+-- No sign of a level below this one comes next.
+abbrev pub Loose : {T O : Type 0} → (ℕ → T → Option O) → ℕ → List T → Type 0
+Loose sign l rest = (i : ℕ) → i < l → peek (sign i) rest ≡ None
+
+-- What goes on after an operand that was read already.
+abbrev pub Onward : {T A O : Type 0} → (ℕ → T → Option O) → (O → A → A → A) → (List T → A → ℕ → Type 0) → ℕ → ℕ → A × ℕ → List T → A × ℕ → Type 0
+Onward {T} sign two E l b x c y = (a : List T) → Spends E b a x → Spends (Levels sign two E l) b (a ++ c) y

@@ -1,5 +1,5 @@
 -- Parsers that read a list of tokens from left to right; an error is the number of tokens left from the fault on.
-use Rattle.std.specs.Prelude.{ℕ, zero, suc, Bool, true, false, not, if◌then◌else◌, List, [], ◌∷◌, ◌++◌, length, drop, Option, Some, None, Result, Ok, Err}
+use Rattle.std.specs.Prelude.{ℕ, zero, suc, ◌==◌, Bool, true, false, not, if◌then◌else◌, List, [], ◌∷◌, ◌++◌, length, drop, Option, Some, None, Result, Ok, Err}
 
 -- What was read and the tokens after it, or how many tokens are left from the fault on.
 abbrev pub Outcome : Type 0 → Type 0 → Type 0
@@ -123,3 +123,12 @@ levels sign two operand (suc l) b = level (sign l) two (levels sign two operand 
 unfoldable pub onward : {T A O : Type 0} → (ℕ → T → Option O) → (O → A → A → A) → (ℕ → Parser T (A × ℕ)) → ℕ → A × ℕ → Parser T (A × ℕ)
 onward sign two operand zero x = pure x
 onward sign two operand (suc l) x = onward sign two operand l x >>= λ y. chain (sign l) two (levels sign two operand l) (suc y.1) y
+
+-- The sign, if it is of this level.
+abbrev pub of_level : {O : Type 0} → ℕ → Option (O × ℕ) → Option O
+of_level l None = None
+of_level l (Some p) = if p.1 == l then Some p.0 else None
+
+-- The signs of each level, of a table that says what a token binds and at which level.
+abbrev pub sign_of : {T O : Type 0} → (T → Option (O × ℕ)) → ℕ → T → Option O
+sign_of binds l t = of_level l (binds t)

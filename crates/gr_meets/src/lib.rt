@@ -5,4 +5,4 @@
 
 mod laws;
 
-pub use laws::law;
+pub use laws::example_is_exact;

@@ -1,1 +1,6 @@
 pub mod Words
+pub mod Tests
+pub mod Exprs
+pub mod Complete
+pub mod Calls
+pub mod CallsComplete

@@ -75,12 +75,14 @@ pub data IsObject : Tok → Name → Type 0 where
   named : {n : Name} → IsObject (Tok.name n) n
   heap : {at : Place} → IsObject (Tok.heap at) (heap_name at)
 
+-- NAME [ NAME ] args, as a call of this object's operation
+pub data IsOperation : ℕ → Name → Toks → CallText → Type 0 where
+  plain : {d : ℕ} {object op : Name} {ts : Toks} {xs : List Expr} → IsArgs d ts xs → IsOperation d object (Tok.name op ∷ ts) (call_of object op None xs)
+  reducing : {d : ℕ} {object op by : Name} {ts : Toks} {xs : List Expr} → IsArgs d ts xs → IsOperation d object (Tok.name op ∷ (Tok.name by ∷ ts)) (call_of object op (Some by) xs)
+
 -- call = ( NAME | "heap" ) "." NAME [ NAME ] args
 pub data IsCall : ℕ → Toks → CallText → Type 0 where
-  plain : {d : ℕ} {t : Tok} {object op : Name} {ts : Toks} {xs : List Expr} → IsObject t object → IsArgs d ts xs
-      → IsCall d (t ∷ (Tok.sign s.Dot ∷ (Tok.name op ∷ ts))) (call_of object op None xs)
-  reducing : {d : ℕ} {t : Tok} {object op by : Name} {ts : Toks} {xs : List Expr} → IsObject t object → IsArgs d ts xs
-      → IsCall d (t ∷ (Tok.sign s.Dot ∷ (Tok.name op ∷ (Tok.name by ∷ ts)))) (call_of object op (Some by) xs)
+  call : {d : ℕ} {t : Tok} {object : Name} {ts : Toks} {c : CallText} → IsObject t object → IsOperation d object ts c → IsCall d (t ∷ (Tok.sign s.Dot ∷ ts)) c
 
 -- ---- statements
 

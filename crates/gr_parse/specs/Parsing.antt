@@ -1,6 +1,6 @@
 -- The parser as a specification: what each function of the code reads, from the tokens that are left.
 use Rattle.std.specs.Prelude.{◌≡◌, ℕ, zero, suc, ◌^◌, Bool, true, false, List, [], ◌∷◌, Option, Some, None, Result, Ok, Err}
-use Rattle.gr_meets.specs.Parsers.{Outcome, Parser, ◌>>=◌, ◌>>◌, pure, refuse, skip, expect, either, look, value, run, separated, enclosed, spend, go_on, chain}
+use Rattle.gr_meets.specs.Parsers.{Outcome, Parser, ◌>>=◌, ◌>>◌, pure, refuse, skip, expect, either, look, value, run, separated, enclosed, spend, go_on, levels, onward}
 use Rattle.gr_lang.specs.declared.syntax.Name.{Name}
 use Rattle.gr_lang.specs.declared.syntax.Number.{Number}
 use Rattle.gr_lang.specs.declared.syntax.BinOp.{BinOp}
@@ -66,18 +66,13 @@ two o x y = e.Two o x y
 unfoldable pub atom : ℕ → Parser Tok Counted
 atom b = value atom_of >>= λ x. pure (x, b)
 
--- The operators of the levels below this one.
-unfoldable pub levels : (ℕ → Parser Tok Counted) → ℕ → ℕ → Parser Tok Counted
-levels u zero b = u b
-levels u (suc l) b = levels u l b >>= λ x. chain (operator l) two (levels u l) (suc x.1) x
-
 -- Behind a first operand, a comparison with a second one, if there is one.
 unfoldable pub comparing : (ℕ → Parser Tok Counted) → Counted → Parser Tok Counted
-comparing u x = look (operator loosest) (go_on (pure x) (λ o. spend x.1 (λ b. skip >> (levels u loosest b >>= λ y. pure (two o x.0 y.0, y.1)))))
+comparing u x = look (operator loosest) (go_on (pure x) (λ o. spend x.1 (λ b. skip >> (levels operator two u loosest b >>= λ y. pure (two o x.0 y.0, y.1)))))
 
 -- All operators.
 unfoldable pub comparison : (ℕ → Parser Tok Counted) → ℕ → Parser Tok Counted
-comparison u b = levels u loosest b >>= comparing u
+comparison u b = levels operator two u loosest b >>= comparing u
 
 unfoldable pub group : Parser Tok Counted → Parser Tok Counted
 group inner = inner >>= λ x. expect (is_sign s.RightParen) >> pure x
@@ -91,14 +86,9 @@ unary (suc d) b = either (is_sign s.Bang) (unary d b >>= λ x. pure (negation x)
 unfoldable pub expr : ℕ → Parser Tok Expr
 expr d = comparison (unary d) max_signs >>= λ x. pure x.0
 
--- From a first operand on, the operators of the levels below this one.
-unfoldable pub onward : (ℕ → Parser Tok Counted) → ℕ → Counted → Parser Tok Counted
-onward u zero x = pure x
-onward u (suc l) x = onward u l x >>= λ y. chain (operator l) two (levels u l) (suc y.1) y
-
 -- An expression whose first operand was read.
 unfoldable pub expr_from : ℕ → Expr → Parser Tok Expr
-expr_from d x = onward (unary d) loosest (x, max_signs) >>= λ y. comparing (unary d) y >>= λ z. pure z.0
+expr_from d x = onward operator two (unary d) loosest (x, max_signs) >>= λ y. comparing (unary d) y >>= λ z. pure z.0
 
 -- ---- arguments and calls. The number `turns` bounds the turns of each loop; each turn takes a token.
 
