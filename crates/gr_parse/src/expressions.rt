@@ -134,7 +134,7 @@ fn comparing<'a>(
 
 /// The operators of the levels below this one.
 #[cycle(expr)]
-#[tactic(auto, unfolding(crate::specs::Parsing::levels))]
+#[tactic(auto, unfolding(gr_meets::specs::Parsers::levels, gr_meets::specs::Parsers::level))]
 fn levels<'a>(
     alloc: Global,
     rest: Rest<'a>,
@@ -142,7 +142,7 @@ fn levels<'a>(
     below: u8,
     signs: usize,
 ) -> Result<(Expr, usize, Rest<'a>), Stop>
-    ensures { Gives (λ x. ((x.0, x.1), x.2)) result (spec.levels (spec.unary depth) below signs rest.entry) }
+    ensures { Gives (λ x. ((x.0, x.1), x.2)) result (read.levels tok.operator spec.two (spec.unary depth) below signs rest.entry) }
 {
     if below == 0 {
         return unary(alloc, rest, depth, signs);
@@ -161,7 +161,7 @@ fn chain<'a>(
     mut signs: usize,
     first: Expr,
 ) -> Result<(Expr, usize, Rest<'a>), Stop>
-    ensures { (n : ℕ) → signs < n → Gives (λ x. ((x.0, x.1), x.2)) result (read.chain (tok.operator below) spec.two (spec.levels (spec.unary depth) below) n (first, signs) rest.entry) }
+    ensures { (n : ℕ) → signs < n → Gives (λ x. ((x.0, x.1), x.2)) result (read.chain (tok.operator below) spec.two (read.levels tok.operator spec.two (spec.unary depth) below) n (first, signs) rest.entry) }
 {
     let mut left = first;
     while let Some(op) = rest.operator_ahead(below) {
@@ -190,7 +190,7 @@ pub fn expr<'a>(
 }
 
 /// From a first operand on, the operators of the levels below this one.
-#[tactic(auto, unfolding(crate::specs::Parsing::onward))]
+#[tactic(auto, unfolding(gr_meets::specs::Parsers::onward))]
 fn onward<'a>(
     alloc: Global,
     rest: Rest<'a>,
@@ -199,7 +199,7 @@ fn onward<'a>(
     signs: usize,
     first: Expr,
 ) -> Result<(Expr, usize, Rest<'a>), Stop>
-    ensures { Gives (λ x. ((x.0, x.1), x.2)) result (spec.onward (spec.unary depth) below (first, signs) rest.entry) }
+    ensures { Gives (λ x. ((x.0, x.1), x.2)) result (read.onward tok.operator spec.two (spec.unary depth) below (first, signs) rest.entry) }
 {
     if below == 0 {
         return Ok((first, signs, rest));

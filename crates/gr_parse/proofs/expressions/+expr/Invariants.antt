@@ -22,8 +22,8 @@ decreases-comparison l = 100 * l.depth + 21
 abbrev pub decreases-group : goal.decreases-group
 decreases-group l = 100 * l.depth + 22
 
-abbrev operand : ℕ → ℕ → ℕ → read.Parser tok.Tok spec.Counted
-operand depth below = spec.levels (spec.unary depth) below
+abbrev pub operand : ℕ → ℕ → ℕ → read.Parser tok.Tok spec.Counted
+operand depth below = read.levels tok.operator spec.two (spec.unary depth) below
 
 abbrev pub invariant-chain-loop-op : goal.invariant-chain-loop-op
 invariant-chain-loop-op l = (most : ℕ) → l.fn.signs < most → (n : ℕ) × (l.signs < n)
