@@ -1,6 +1,8 @@
 pub mod Words
+pub mod Steps
 pub mod Tests
 pub mod Exprs
 pub mod Complete
 pub mod Calls
 pub mod CallsComplete
+pub mod Shorter

@@ -4,7 +4,7 @@ ghost use Rattle.std.specs.Prelude.{◌≡◌, [], ◌∷◌, IfOk};
 ghost use Rattle.gr_parse.specs.Parsing as spec;
 ghost use Rattle.gr_parse.specs.Parsing.{Gives};
 
-use crate::calls::{call, method, operation};
+use crate::arguments::{call, method, operation};
 use crate::expressions::{expr, expr_from};
 use crate::fault::Stop;
 use crate::lists::name;

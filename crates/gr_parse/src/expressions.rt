@@ -134,7 +134,7 @@ fn comparing<'a>(
 
 /// The operators of the levels below this one.
 #[cycle(expr)]
-#[tactic(auto, unfolding(gr_meets::specs::Parsers::levels, gr_meets::specs::Parsers::level))]
+#[tactic(auto, unfolding(gr_meets::specs::Parsers::levels))]
 fn levels<'a>(
     alloc: Global,
     rest: Rest<'a>,

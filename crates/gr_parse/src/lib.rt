@@ -2,11 +2,17 @@
 //! continues no program.
 #![tactic(auto)]
 
-pub mod fault;
+mod arguments;
+mod assignments;
+mod blocks;
+mod declarations;
 mod expressions;
+pub mod fault;
 mod laws;
+mod lists;
 mod meaning;
 mod rest;
+mod starts;
 
 pub use fault::ParseError;
 pub use laws::law;

@@ -1,8 +1,7 @@
-//! Lists with commas.
+//! Names, numbers, and lists with commas.
 
-ghost use Rattle.std.specs.Prelude.{◌≡◌, ℕ};
+ghost use Rattle.std.specs.Prelude.{◌≡◌, ℕ, ◌≤◌, length, IfOk};
 ghost use Rattle.gr_meets.specs.Parsers as read;
-ghost use Rattle.gr_meets.specs.Languages.{Shortens};
 ghost use Rattle.gr_text.specs.declared.token.Sign.TheVariants as signs;
 ghost use Rattle.gr_parse.specs.Tok as tok;
 ghost use Rattle.gr_parse.specs.Parsing as spec;
@@ -17,25 +16,42 @@ use sqlite_items::Items;
 use std::alloc::Global;
 
 /// What stands between the commas of a list.
-pub trait Element: Drop {
+pub trait Element: Sized + Drop {
     ghost read_one: { ℕ → read.Parser tok.Tok Self };
 
     /// One element, with room for so many nestings.
     fn parse<'a>(alloc: Global, rest: Rest<'a>, depth: usize) -> Result<(Self, Rest<'a>), Stop>
-        ensures { Gives (λ x. x) result (read_one depth rest.entry) };
-
-    ghost shortens: { (depth : ℕ) → Shortens (read_one depth) };
+        ensures gives { Gives (λ x. x) result (read_one depth rest.entry) }
+        ensures shorter { IfOk result (λ x. length x.1 ≤ length rest.entry) };
 }
 
 impl Element for Name {
-    ghost use Rattle.gr_meets.proofs.Agrees.{shortens_value};
+    ghost use Rattle.gr_parse.specs.Parsing as spec;
 
     ghost read_one = { λ _. spec.name };
 
-    ghost shortens = { λ _. Prim.unfold spec.name in shortens_value tok.name_of };
-
     fn parse<'a>(alloc: Global, rest: Rest<'a>, _depth: usize) -> Result<(Name, Rest<'a>), Stop> {
         name(alloc, rest)
+    }
+}
+
+impl Element for Number {
+    ghost use Rattle.gr_parse.specs.Parsing as spec;
+
+    ghost read_one = { λ _. spec.number };
+
+    fn parse<'a>(_alloc: Global, rest: Rest<'a>, _depth: usize) -> Result<(Number, Rest<'a>), Stop> {
+        number(rest)
+    }
+}
+
+impl Element for Expr {
+    ghost use Rattle.gr_parse.specs.Parsing as spec;
+
+    ghost read_one = { λ depth. spec.expr depth };
+
+    fn parse<'a>(alloc: Global, rest: Rest<'a>, depth: usize) -> Result<(Expr, Rest<'a>), Stop> {
+        expr(alloc, rest, depth)
     }
 }
 
@@ -44,7 +60,8 @@ impl Element for Name {
 pub fn name<'a>(alloc: Global, rest: Rest<'a>) -> Result<(Name, Rest<'a>), Stop>
     ensures { Gives (λ x. x) result (spec.name rest.entry) }
 {
-    match rest.name_ahead(alloc)? {
+    let ahead = rest.name_ahead(alloc)?;
+    match ahead {
         Some(name) => Ok((name, rest.next())),
         None => Err(rest.refusal()),
     }
@@ -52,11 +69,48 @@ pub fn name<'a>(alloc: Global, rest: Rest<'a>) -> Result<(Name, Rest<'a>), Stop>
 
 /// A number.
 #[tactic(auto, unfolding(crate::specs::Parsing::number, gr_meets::specs::Parsers::value))]
-pub fn number(rest: Rest<'_>) -> Result<(Number, Rest<'_>), Stop>
+pub fn number<'a>(rest: Rest<'a>) -> Result<(Number, Rest<'a>), Stop>
     ensures { Gives (λ x. x) result (spec.number rest.entry) }
 {
-    match rest.number_ahead() {
+    let ahead = rest.number_ahead();
+    match ahead {
         Some(number) => Ok((number, rest.next())),
         None => Err(rest.refusal()),
     }
+}
+
+/// One element or more, with a comma between two.
+pub fn separated<'a, E: Element>(
+    alloc: Global,
+    rest: Rest<'a>,
+    depth: usize,
+) -> Result<(Items<E>, Rest<'a>), Stop>
+    ensures { Gives (λ x. x) result (read.separated (tok.is_sign signs.Comma) (E.read_one depth) spec.plenty rest.entry) }
+{
+    let (first, mut rest) = E::parse(alloc, rest, depth)?;
+    let mut found = Items::new(alloc);
+    found.push(first)?;
+    'each: while rest.sees(Sign::Comma) {
+        let (one, after) = E::parse(alloc, rest.next(), depth)?;
+        found.push(one)?;
+        rest = after;
+    }
+    Ok((found, rest))
+}
+
+/// Elements with a comma between two, none of them needed, up to the closing bracket, which is taken.
+#[tactic(auto, unfolding(gr_meets::specs::Parsers::enclosed))]
+pub fn enclosed<'a, E: Element>(
+    alloc: Global,
+    rest: Rest<'a>,
+    depth: usize,
+) -> Result<(Items<E>, Rest<'a>), Stop>
+    ensures { Gives (λ x. x) result (read.enclosed (tok.is_sign signs.RightParen) (tok.is_sign signs.Comma) (E.read_one depth) spec.plenty rest.entry) }
+{
+    if rest.sees(Sign::RightParen) {
+        return Ok((Items::new(alloc), rest.next()));
+    }
+    let (found, rest) = separated(alloc, rest, depth)?;
+    let rest = rest.expect(Sign::RightParen)?;
+    Ok((found, rest))
 }

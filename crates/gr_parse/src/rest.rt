@@ -1,6 +1,6 @@
 //! The tokens that are left to read.
 
-ghost use Rattle.std.specs.Prelude.{◌≡◌, ◌<◌, ◌^◌, length, IfOk};
+ghost use Rattle.std.specs.Prelude.{◌≡◌, ◌<◌, ◌^◌, false, length, IfOk};
 ghost use Rattle.std.specs.Option.{option_map};
 ghost use Rattle.gr_meets.specs.Parsers as read;
 ghost use Rattle.gr_parse.specs.Tok as tok;
@@ -44,14 +44,6 @@ impl<'a> Rest<'a> {
         Rest { text, tokens }
     }
 
-    /// How many tokens are left.
-    #[tactic(auto, unfolding(crate::specs::Tok::toks))]
-    pub fn len(&self) -> usize
-        ensures { result ≡ length self.now }
-    {
-        self.tokens.len()
-    }
-
     /// Whether no token is left.
     #[tactic(auto, unfolding(crate::specs::Tok::toks, gr_meets::specs::Parsers::halts))]
     pub fn is_empty(&self) -> bool
@@ -64,11 +56,27 @@ impl<'a> Rest<'a> {
         }
     }
 
-    /// The refusal of what comes next.
-    pub fn refusal(&self) -> Stop
-        ensures { result ≡ Stop.Fault (length self.now) }
+    /// Whether a list ends here: no token is left, or the next one is this sign.
+    #[tactic(auto, unfolding(crate::specs::Tok::toks, gr_meets::specs::Parsers::halts))]
+    pub fn halts(&self, sign: Sign) -> bool
+        ensures ends { result ≡ read.halts (tok.is_sign sign) self.now }
+        ensures few { length self.now < 2 ^ 64 }
     {
-        Stop::Fault { left: self.len() }
+        match self.tokens {
+            [] => true,
+            [token, ..] => is_sign(token, sign),
+        }
+    }
+
+    /// The refusal of what comes next, which stands for no part that finds no room.
+    #[tactic(auto, unfolding(crate::specs::Tok::toks), using(crate::proofs::Words::sound_sees))]
+    pub fn refusal(&self) -> Stop
+        ensures stop { result ≡ Stop.Fault (length self.now) }
+        ensures room { read.sees tok.is_missing self.now ≡ false }
+    {
+        Stop::Fault {
+            left: self.tokens.len(),
+        }
     }
 
     /// What is left behind the next token.
@@ -88,7 +96,8 @@ impl<'a> Rest<'a> {
     /// Whether the next token is this sign.
     #[tactic(auto, unfolding(crate::specs::Tok::toks, gr_meets::specs::Parsers::sees))]
     pub fn sees(&self, sign: Sign) -> bool
-        ensures { result ≡ read.sees (tok.is_sign sign) self.now }
+        ensures is { result ≡ read.sees (tok.is_sign sign) self.now }
+        ensures few { length self.now < 2 ^ 64 }
     {
         match self.tokens {
             [] => false,

@@ -5,7 +5,7 @@ ghost use Rattle.gr_parse.specs.Parsing as spec;
 ghost use Rattle.gr_parse.specs.Parsing.{Gives};
 
 use crate::assignments::assignment;
-use crate::calls::{args, method, operation};
+use crate::arguments::{args, method, operation};
 use crate::expressions::expr;
 use crate::fault::Stop;
 use crate::lists::name;

@@ -1,4 +1,4 @@
-use Rattle.std.proofs.Common.{rules, arith, ◌≡◌, ℕ, ◌<◌, ◌-◌, Ok, sym, ◌∙◌, ap}
+use Rattle.std.proofs.Common.{rules, arith, ◌≡◌, ℕ, suc, ◌<◌, ◌-◌, Ok, sym, ◌∙◌, ap}
 use Rattle.std.proofs.lemmas.Grind.{common_steps}
 use Rattle.gr_lang.specs.declared.syntax.Expr.{Expr}
 use Rattle.gr_meets.specs.Parsers as read
@@ -6,6 +6,7 @@ use Rattle.gr_meets.proofs.Chains.{chain_none, chain_full, chain_some}
 use Rattle.gr_parse.specs.Tok as tok
 use Rattle.gr_parse.specs.Parsing as spec
 use Rattle.gr_parse.proofs.Exprs.{levels_less}
+use Rattle.gr_parse.proofs.Steps.{levels_step}
 use Rattle.gr_parse.proofs.expressions.+expr.Invariants.{operand}
 use Rattle.gr_parse.proofs.expressions.+expr.Goals as goal
 
@@ -41,4 +42,10 @@ pub chain-returns : goal.chain-returns
 chain-returns t c n h =
     let i = c.loop-op.invariant n h in
     let e = chain_none (tok.operator c.args.below) spec.two (operand c.args.depth c.args.below) i.0 (c.loop-op.left, c.loop-op.signs) c.loop-op.rest (sym c.operator_ahead.ensures ∙ c.in_default.is) in
+    first_of (search rules, grind (arith, common_steps))
+
+pub levels-returns : goal.levels-returns
+levels-returns t c =
+    let e = levels_step (spec.unary c.args.depth) c.args.below c.args.signs c.args.rest (omega arith) in
+    let g = c.chain.ensures (suc c.in_ok-first.signs) (omega arith) in
     first_of (search rules, grind (arith, common_steps))
