@@ -3,3 +3,4 @@ pub mod Exprs
 pub mod Complete
 pub mod Calls
 pub mod CallsComplete
+pub mod Stmts
