@@ -4,3 +4,4 @@ pub mod Complete
 pub mod Calls
 pub mod CallsComplete
 pub mod Stmts
+pub mod ItemsMeet
