@@ -4,4 +4,5 @@ pub mod Complete
 pub mod Calls
 pub mod CallsComplete
 pub mod Stmts
+pub mod StmtsComplete
 pub mod ItemsMeet
