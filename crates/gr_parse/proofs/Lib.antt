@@ -6,3 +6,5 @@ pub mod CallsComplete
 pub mod Stmts
 pub mod StmtsComplete
 pub mod ItemsMeet
+pub mod ItemsComplete
+pub mod Agree

@@ -143,7 +143,7 @@ started_meets turns d h K make =
 at_made : {d : ℕ} (ts : Toks) (x : Expr) → IsExpr d ts x → IsHow d (Tok.key keys.Spawn ∷ (Tok.key keys.At ∷ (ts ++ []))) (how.At x)
 at_made {d} ts x h = subst (λ (u : Toks). IsHow d (Tok.key keys.Spawn ∷ (Tok.key keys.At ∷ u)) (how.At x)) (sym (append-nil ts)) (IsHow.at h)
 
-spawned_at_meets : (d : ℕ) → Meets (spawned_at d) (λ ts h. IsHow d (Tok.key keys.Spawn ∷ ts) h) (λ ts h. IsHow d (Tok.key keys.Spawn ∷ ts) h)
+pub spawned_at_meets : (d : ℕ) → Meets (spawned_at d) (λ ts h. IsHow d (Tok.key keys.Spawn ∷ ts) h) (λ ts h. IsHow d (Tok.key keys.Spawn ∷ ts) h)
 unfolding spawned_at
 spawned_at_meets d = either_meets (key_test keys.At)
     (bind (expr_meets d) (λ x. meets_pure (λ a h. at_made a x h)) (λ a x h. ([], how.At x, at_made a x h)))
@@ -225,7 +225,7 @@ finish_made : {d : ℕ} {us : Toks} {xs : List Stmt} → IsBlock d us xs → IsS
 finish_made {d} {us} {xs} k = subst (λ (v : Toks). IsStmt d (Tok.key keys.Finish ∷ v) (st.Finish xs)) (sym (append-nil us)) (IsStmt.finish k)
 
 module _ (turns d : ℕ) (inner : Parser Tok (List Stmt)) (reads : Meets inner (IsBlock d) (IsBlock d)) where
-  else_meets : Meets (else_block inner) (IsElse d) (IsElse d)
+  pub else_meets : Meets (else_block inner) (IsElse d) (IsElse d)
   unfolding else_block
   else_meets = either_meets (key_test keys.Else) (weaken reads (λ ts xs h. IsElse.otherwise h) (λ ts xs h. IsElse.otherwise h)) (meets_pure IsElse.without)
 
@@ -288,7 +288,7 @@ pub to_repeated : {d : ℕ} {ts : Toks} {xs : List Stmt} → IsStmts d ts xs →
 to_repeated IsStmts.none = Repeated.none
 to_repeated (IsStmts.one_more h k) = Repeated.one_more h (to_repeated k)
 
-braces_meets : (turns d : ℕ) (p : Parser Tok Stmt) → Meets p (IsStmt d) (IsStmt d) → Meets (braces turns p) (IsBlock (suc d)) (IsBlock (suc d))
+pub braces_meets : (turns d : ℕ) (p : Parser Tok Stmt) → Meets p (IsStmt d) (IsStmt d) → Meets (braces turns p) (IsBlock (suc d)) (IsBlock (suc d))
 unfolding braces
 braces_meets turns d p reads = expect_then (sign_test signs.LeftBrace)
     (bind (run_meets (is_sign signs.RightBrace) turns reads)
@@ -296,7 +296,7 @@ braces_meets turns d p reads = expect_then (sign_test signs.LeftBrace)
     (λ a xs h. (Tok.sign signs.RightBrace ∷ [], xs, IsBlock.braces (from_repeated h))))
     (Tok.sign signs.RightBrace ∷ []) [] (IsBlock.braces IsStmts.none)
 
-no_room_meets : Meets {A = List Stmt} no_room (IsBlock 0) (IsBlock 0)
+pub no_room_meets : Meets {A = List Stmt} no_room (IsBlock 0) (IsBlock 0)
 no_room_meets = expect_then missing_test (meets_pure IsBlock.missing) [] [] IsBlock.missing
 
 pub statement_meets : (turns d : ℕ) → Meets (statement turns d) (IsStmt d) (IsStmt d)

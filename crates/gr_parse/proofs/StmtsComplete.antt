@@ -31,7 +31,7 @@ use Rattle.gr_parse.proofs.Stmts.{to_repeated}
 
 -- ---- lengths
 
-behind_few : (n : ℕ) (a b rest : Toks) → length ((a ++ b) ++ rest) < n → length (b ++ rest) < n
+pub behind_few : (n : ℕ) (a b rest : Toks) → length ((a ++ b) ++ rest) < n → length (b ++ rest) < n
 behind_few n a b rest few = omega (arith, few, ap length (append_assoc a b rest), length-append a (b ++ rest))
 
 -- ---- the right side of an assignment
@@ -355,6 +355,11 @@ begun_no_else (BeginsStmt.a_key w e) = e
 
 pub stmts_begin : (d : ℕ) → Begins (is_sign signs.RightBrace) (IsStmt d) NoElse
 stmts_begin d = record { goes = λ ts x h rest. begun_goes (stmt_begins h rest); follows = λ ts x h rest. begun_no_else (stmt_begins h rest) }
+
+pub stmt_long : (d : ℕ) (ts : Toks) (x : Stmt) → IsStmt d ts x → 0 < length ts
+unfolding halts
+stmt_long d [] x h = absurd (let e = (stmts_begin d).goes [] x h [] in cc)
+stmt_long d (t ∷ ts) x h = omega arith
 
 brace_ends : (rest : Toks) → NoElse (Tok.sign signs.RightBrace ∷ rest) × (halts (is_sign signs.RightBrace) (Tok.sign signs.RightBrace ∷ rest) ≡ true)
 unfolding sees halts same_sign
