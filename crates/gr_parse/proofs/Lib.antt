@@ -8,3 +8,5 @@ pub mod StmtsComplete
 pub mod ItemsMeet
 pub mod ItemsComplete
 pub mod Agree
+pub mod Whole
+pub mod Shaped
