@@ -1,0 +1,5 @@
+pub mod TaskIds
+pub mod Nexts
+pub mod Opens
+pub mod AcceptedRows
+pub mod StepRows

@@ -1,5 +1,5 @@
 -- What is spelled is read, combinator by combinator.
-use Rattle.std.proofs.Common.{◌≡◌, ℕ, suc, ◌<◌, Bool, true, false, cond, List, [], ◌∷◌, ◌++◌, length, Option, Some, Ok, Err, sym, ap, subst, ◌∙◌, append_assoc}
+use Rattle.std.proofs.Common.{◌≡◌, ℕ, suc, ◌<◌, Bool, true, false, cond, List, [], ◌∷◌, ◌++◌, length, Option, Some, None, Ok, Err, sym, ap, subst, ◌∙◌, append_assoc}
 use Rattle.std.proofs.lemmas.List.{append-nil}
 use Rattle.gr_meets.specs.Parsers.{Outcome, Parser, and_then, ◌>>=◌, ◌>>◌, sees, peek, next, expect, either, look, value, take_meaning}
 use Rattle.gr_meets.specs.Languages.{Tests, Completes}
@@ -28,6 +28,15 @@ either_second is p q ts e h = ap (λ v. cond v (p (next ts)) (q ts)) e ∙ h
 
 pub look_reads : {T X A : Type 0} (f : T → Option X) (k : Option X → Parser T A) {ts : List T} {x : Option X} {r : Outcome T A} → peek f ts ≡ x → k x ts ≡ r → look f k ts ≡ r
 look_reads f k {ts} e h = ap (λ x. k x ts) e ∙ h
+
+-- The next token is looked at, and taken.
+pub look_first : {T X A : Type 0} {r : Outcome T A} (f : T → Option X) (k : Option X → Parser T A) (t : T) (x : X) (ts : List T) → f t ≡ Some x → k (Some x) (t ∷ ts) ≡ r → look f k (t ∷ ts) ≡ r
+unfolding peek
+look_first f k t x ts e h = ap (λ o. k o (t ∷ ts)) e ∙ h
+
+-- The next token means nothing.
+pub look_second : {T X A : Type 0} {r : Outcome T A} (f : T → Option X) (k : Option X → Parser T A) (ts : List T) → peek f ts ≡ None → k None ts ≡ r → look f k ts ≡ r
+look_second f k ts e h = ap (λ o. k o ts) e ∙ h
 
 -- The next token means this.
 pub value_reads : {T X A : Type 0} {t : T} {x : X} {r : Outcome T A} (f : T → Option X) (q : X → Parser T A) (ts : List T) → f t ≡ Some x → q x ts ≡ r → (value f >>= q) (t ∷ ts) ≡ r

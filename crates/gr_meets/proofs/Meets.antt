@@ -249,6 +249,22 @@ pure_same (Err n) = refl
 pub value_meets : {T X : Type 0} {f : T → Option X} {L W : List T → X → Type 0} → ((t : T) (x : X) → f t ≡ Some x → L (t ∷ []) x) → (b : List T) (x : X) → W b x → Meets (value f) L W
 value_meets {f} {L} {W} h b x some = meets_same (λ ts. pure_same (value f ts)) (value_all f (λ y. pure y) L W (λ t y e. meets_pure (h t y e)) b x some)
 
+module _ {T X A : Type 0} (f : T → Option X) (k : Option X → Parser T A) (q : X → Parser T A) (same : (x : X) (ts : List T) → (skip >> q x) ts ≡ k (Some x) ts) (K W : List T → A → Type 0) (m : Meets (k None) K W)
+    (goes : (t : T) (x : X) → f t ≡ Some x → Meets (q x) (λ b y. K (t ∷ b) y) (λ b y. W (t ∷ b) y)) where
+  takes_read : (o : Option X) (ts : List T) → peek f ts ≡ o → Read (k o) K W ts (k o ts)
+  takes_read None ts e = m.at ts
+  takes_read (Some x) ts e =
+      let h = peek_means f x ts e in
+      same_read (skip >> q x) (k (Some x)) K W (same x) ts (k (Some x) ts) (subst (Read (skip >> q x) K W ts) (same x ts) (skip_then h.token (q x) K W ts h.heads (goes h.token x h.means)))
+
+  takes_all : Meets (look f k) K W
+  takes_all = branch (peek f) (peek-alike f) k K W takes_read
+
+-- A token that means something is taken, and q goes on with that; any other is left to k None. The fourth argument is λ x ts. refl where k (Some x) skips the token.
+pub look_takes : {T X A : Type 0} {K W : List T → A → Type 0} (f : T → Option X) (k : Option X → Parser T A) (q : X → Parser T A) → ((x : X) (ts : List T) → (skip >> q x) ts ≡ k (Some x) ts) → Meets (k None) K W
+    → ((t : T) (x : X) → f t ≡ Some x → Meets (q x) (λ b y. K (t ∷ b) y) (λ b y. W (t ∷ b) y)) → Meets (look f k) K W
+look_takes {K} {W} f k q same m goes = takes_all f k q same K W m goes
+
 -- ---- what an outcome says
 
 pub took : {T A : Type 0} {P : Parser T A} {L W : List T → A → Type 0} → Meets P L W → (ts : List T) (x : A) (rest : List T) → P ts ≡ Ok (x, rest) → Took P L ts x rest

@@ -6,3 +6,10 @@ pub mod Complete
 pub mod Calls
 pub mod CallsComplete
 pub mod Shorter
+pub mod Stmts
+pub mod StmtsComplete
+pub mod ItemsMeet
+pub mod ItemsComplete
+pub mod Agree
+pub mod Whole
+pub mod Shaped

@@ -1,1 +1,4 @@
+pub mod Front
 pub mod Places
+pub mod Spelling
+pub mod Text

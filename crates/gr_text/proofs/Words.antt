@@ -1,0 +1,186 @@
+-- Facts of each keyword.
+use Rattle.std.proofs.Common.{◌≡◌, ◌≢◌, ℕ, ◌+◌, ◌<◌, ◌≤◌, ◌^◌, ◌*◌, Bool, true, false, cond, List, [], ◌∷◌, length, get_or, Option, Some, None, zero, suc, inl, inr, refl, sym, ap, ◌∙◌, arith, lit≤, lit<}
+use Rattle.std.specs.Prelude.{◌⊎◌, ◌==◌, if◌then◌else◌}
+use Rattle.std.specs.Str.{bytes_eq}
+use Rattle.std.proofs.lemmas.Slice.Eq.{bytes_eq-Decides}
+use Rattle.gr_text.specs.declared.token.Keyword.{Keyword}
+use Rattle.gr_text.specs.declared.token.Keyword.TheVariants.{Array, Set, Map, Vector, Heap, Input, Show, Task, Let, If, Else, While, Print, Spawn, At, Offer, Finish, Forall, Grain}
+use Rattle.gr_text.specs.Spelling.{keyword_bytes}
+use Rattle.gr_text.specs.Text.{Text, is_letter, is_word, are_all, most_name}
+
+-- The place of a keyword in the list of all.
+abbrev pub rank : Keyword → ℕ
+rank Array = 0
+rank Set = 1
+rank Map = 2
+rank Vector = 3
+rank Heap = 4
+rank Input = 5
+rank Show = 6
+rank Task = 7
+rank Let = 8
+rank If = 9
+rank Else = 10
+rank While = 11
+rank Print = 12
+rank Spawn = 13
+rank At = 14
+rank Offer = 15
+rank Finish = 16
+rank Forall = 17
+rank Grain = 18
+
+-- The bytes as one number, which tells the keywords apart.
+abbrev packed : Text → ℕ
+packed [] = 0
+packed (b ∷ bytes) = b + 256 * packed bytes
+
+abbrev unpacked : ℕ → Option Keyword
+unpacked n = if n == 521325933153 then Some Array else (if n == 7628147 then Some Set else (if n == 7364973 then Some Map else (if n == 125823019607414 then Some Vector else (if n == 1885431144 then Some Heap else (if n == 500186508905 then Some Input else (if n == 2003789939 then Some Show else (if n == 1802723700 then Some Task else (if n == 7628140 then Some Let else (if n == 26217 then Some If else (if n == 1702063205 then Some Else else (if n == 435610544247 then Some While else (if n == 500068610672 then Some Print else (if n == 474449277043 then Some Spawn else (if n == 29793 then Some At else (if n == 491327481455 then Some Offer else (if n == 114844899371366 then Some Finish else (if n == 119212747157350 then Some Forall else (if n == 474214396519 then Some Grain else None))))))))))))))))))
+
+unpacks : (k : Keyword) → unpacked (packed (keyword_bytes k)) ≡ Some k
+unpacks Array = refl
+unpacks Set = refl
+unpacks Map = refl
+unpacks Vector = refl
+unpacks Heap = refl
+unpacks Input = refl
+unpacks Show = refl
+unpacks Task = refl
+unpacks Let = refl
+unpacks If = refl
+unpacks Else = refl
+unpacks While = refl
+unpacks Print = refl
+unpacks Spawn = refl
+unpacks At = refl
+unpacks Offer = refl
+unpacks Finish = refl
+unpacks Forall = refl
+unpacks Grain = refl
+
+pub same_keyword : (j k : Keyword) → keyword_bytes j ≡ keyword_bytes k → j ≡ k
+same_keyword j k e =
+    let both : Some j ≡ Some k = sym (unpacks j) ∙ ap (λ (bytes : Text). unpacked (packed bytes)) e ∙ unpacks k in
+    cc
+
+pub keyword_short : (k : Keyword) → length (keyword_bytes k) ≤ most_name
+keyword_short Array = lit≤ tt
+keyword_short Set = lit≤ tt
+keyword_short Map = lit≤ tt
+keyword_short Vector = lit≤ tt
+keyword_short Heap = lit≤ tt
+keyword_short Input = lit≤ tt
+keyword_short Show = lit≤ tt
+keyword_short Task = lit≤ tt
+keyword_short Let = lit≤ tt
+keyword_short If = lit≤ tt
+keyword_short Else = lit≤ tt
+keyword_short While = lit≤ tt
+keyword_short Print = lit≤ tt
+keyword_short Spawn = lit≤ tt
+keyword_short At = lit≤ tt
+keyword_short Offer = lit≤ tt
+keyword_short Finish = lit≤ tt
+keyword_short Forall = lit≤ tt
+keyword_short Grain = lit≤ tt
+
+pub keyword_letters : (k : Keyword) → are_all is_word (keyword_bytes k) ≡ true
+keyword_letters Array = refl
+keyword_letters Set = refl
+keyword_letters Map = refl
+keyword_letters Vector = refl
+keyword_letters Heap = refl
+keyword_letters Input = refl
+keyword_letters Show = refl
+keyword_letters Task = refl
+keyword_letters Let = refl
+keyword_letters If = refl
+keyword_letters Else = refl
+keyword_letters While = refl
+keyword_letters Print = refl
+keyword_letters Spawn = refl
+keyword_letters At = refl
+keyword_letters Offer = refl
+keyword_letters Finish = refl
+keyword_letters Forall = refl
+keyword_letters Grain = refl
+
+pub keyword_head : (k : Keyword) → is_letter (get_or (keyword_bytes k) 0 0) ≡ true
+keyword_head Array = refl
+keyword_head Set = refl
+keyword_head Map = refl
+keyword_head Vector = refl
+keyword_head Heap = refl
+keyword_head Input = refl
+keyword_head Show = refl
+keyword_head Task = refl
+keyword_head Let = refl
+keyword_head If = refl
+keyword_head Else = refl
+keyword_head While = refl
+keyword_head Print = refl
+keyword_head Spawn = refl
+keyword_head At = refl
+keyword_head Offer = refl
+keyword_head Finish = refl
+keyword_head Forall = refl
+keyword_head Grain = refl
+
+pub rank_less : (k : Keyword) → rank k < 19
+rank_less Array = lit< tt
+rank_less Set = lit< tt
+rank_less Map = lit< tt
+rank_less Vector = lit< tt
+rank_less Heap = lit< tt
+rank_less Input = lit< tt
+rank_less Show = lit< tt
+rank_less Task = lit< tt
+rank_less Let = lit< tt
+rank_less If = lit< tt
+rank_less Else = lit< tt
+rank_less While = lit< tt
+rank_less Print = lit< tt
+rank_less Spawn = lit< tt
+rank_less At = lit< tt
+rank_less Offer = lit< tt
+rank_less Finish = lit< tt
+rank_less Forall = lit< tt
+rank_less Grain = lit< tt
+
+abbrev pub all : List Keyword
+all = Array ∷ Set ∷ Map ∷ Vector ∷ Heap ∷ Input ∷ Show ∷ Task ∷ Let ∷ If ∷ Else ∷ While ∷ Print ∷ Spawn ∷ At ∷ Offer ∷ Finish ∷ Forall ∷ Grain ∷ []
+
+pub at_rank : (k d : Keyword) → get_or all (rank k) d ≡ k
+at_rank Array d = refl
+at_rank Set d = refl
+at_rank Map d = refl
+at_rank Vector d = refl
+at_rank Heap d = refl
+at_rank Input d = refl
+at_rank Show d = refl
+at_rank Task d = refl
+at_rank Let d = refl
+at_rank If d = refl
+at_rank Else d = refl
+at_rank While d = refl
+at_rank Print d = refl
+at_rank Spawn d = refl
+at_rank At d = refl
+at_rank Offer d = refl
+at_rank Finish d = refl
+at_rank Forall d = refl
+at_rank Grain d = refl
+
+-- A word that is written as none of the first keywords, nor as the one at this rank.
+pub no_more : (word written : Text) (i : ℕ) (d : Keyword) → ((k : Keyword) → rank k < i → word ≢ keyword_bytes k) → written ≡ keyword_bytes (get_or all i d) → word ≢ written → (k : Keyword) → rank k < i + 1 → word ≢ keyword_bytes k
+no_more word written i d before e other k less same = elim (lt-or-eq (rank k) i (omega arith)) as (λ _. ⊥) [ inl below ↦ before k below same | inr at ↦ other (same ∙ sym (e ∙ ap keyword_bytes (ap (λ (n : ℕ). get_or all n d) (sym at) ∙ at_rank k d))) ]
+  where
+    lt-or-eq : (a b : ℕ) → a ≤ b → (a < b) ⊎ (a ≡ b)
+    lt-or-eq zero zero h = inr refl
+    lt-or-eq zero (suc b) h = inl (omega arith)
+    lt-or-eq (suc a) zero h = absurd (omega arith)
+    lt-or-eq (suc a) (suc b) h = elim (lt-or-eq a b (omega arith)) as (λ _. (suc a < suc b) ⊎ (suc a ≡ suc b)) [ inl x ↦ inl (omega arith) | inr x ↦ inr (ap suc x) ]
+
+pub unequal : (word written bytes : Text) (r : Bool) → r ≡ bytes_eq word bytes → bytes ≡ written → r ≡ false → word ≢ written
+unequal word written bytes r e same h f = let t : bytes_eq word bytes ≡ true = (bytes_eq-Decides word bytes).1 (f ∙ sym same) in cc

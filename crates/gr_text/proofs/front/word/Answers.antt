@@ -1,0 +1,21 @@
+use Rattle.std.proofs.Common.{◌≡◌, ℕ, ◌<◌, ◌≤◌, arith, rules, subst, sym}
+use Rattle.std.proofs.lemmas.List.Sums.{prefix_len-le-length}
+use Rattle.std.specs.List.{prefix_len}
+use Rattle.gr_text.specs.Text.{is_word, most_name}
+use Rattle.gr_text.proofs.Found.{keyword_found, name_found}
+use Rattle.gr_text.proofs.Longest.{long_front}
+use Rattle.gr_text.proofs.front.word.Goals as goal
+
+pub returns-then-length-gt-MOST_NAME : goal.returns-then-length-gt-MOST_NAME
+returns-then-length-gt-MOST_NAME c =
+    let long : most_name < prefix_len is_word c.args.text.now = omega (arith, c.word_len-length.ensures) in
+    (prefix_len is_word c.args.text.now, long_front c.args.text.now c.requires long, long)
+
+pub upto-requires : goal.upto-requires
+upto-requires c = omega (arith, prefix_len-le-length is_word c.args.text.now, c.word_len-length.ensures)
+
+pub returns-in-Some : goal.returns-in-Some
+returns-in-Some c = (keyword_found c.args.text.now c.upto.result.now c.word_len-length.result c.in-Some.word c.requires c.word_len-length.ensures c.upto.ensures c.in-Some.ensures, tt)
+
+pub returns-in-None : goal.returns-in-None
+returns-in-None c = (name_found c.args.text.now c.upto.result.now c.word_len-length.result c.requires c.word_len-length.ensures c.upto.ensures c.in-None.ensures, omega arith)

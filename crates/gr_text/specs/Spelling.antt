@@ -1,0 +1,55 @@
+-- The bytes of each keyword and of each sign.
+use Rattle.std.specs.Prelude.{ℕ, List, codes}
+use Rattle.gr_text.specs.declared.token.Keyword.{Keyword}
+use Rattle.gr_text.specs.declared.token.Keyword.TheVariants.{Array, Set, Map, Vector, Heap, Input, Show, Task, Let, If, Else, While, Print, Spawn, At, Offer, Finish, Forall, Grain}
+use Rattle.gr_text.specs.declared.token.Sign.{Sign}
+use Rattle.gr_text.specs.declared.token.Sign.TheVariants.{LeftParen, RightParen, LeftBrace, RightBrace, LeftBracket, RightBracket, Semicolon, Comma, Dot, DotDot, Assign, EqualEqual, BangEqual, Less, LessEqual, Greater, GreaterEqual, Plus, Minus, Star, Slash, Percent, Ampersand, Bar, Caret, Bang}
+
+abbrev pub keyword_bytes : Keyword → List ℕ
+keyword_bytes Array = codes "array"
+keyword_bytes Set = codes "set"
+keyword_bytes Map = codes "map"
+keyword_bytes Vector = codes "vector"
+keyword_bytes Heap = codes "heap"
+keyword_bytes Input = codes "input"
+keyword_bytes Show = codes "show"
+keyword_bytes Task = codes "task"
+keyword_bytes Let = codes "let"
+keyword_bytes If = codes "if"
+keyword_bytes Else = codes "else"
+keyword_bytes While = codes "while"
+keyword_bytes Print = codes "print"
+keyword_bytes Spawn = codes "spawn"
+keyword_bytes At = codes "at"
+keyword_bytes Offer = codes "offer"
+keyword_bytes Finish = codes "finish"
+keyword_bytes Forall = codes "forall"
+keyword_bytes Grain = codes "grain"
+
+abbrev pub sign_bytes : Sign → List ℕ
+sign_bytes LeftParen = codes "("
+sign_bytes RightParen = codes ")"
+sign_bytes LeftBrace = codes "{"
+sign_bytes RightBrace = codes "}"
+sign_bytes LeftBracket = codes "["
+sign_bytes RightBracket = codes "]"
+sign_bytes Semicolon = codes ";"
+sign_bytes Comma = codes ","
+sign_bytes Dot = codes "."
+sign_bytes DotDot = codes ".."
+sign_bytes Assign = codes "="
+sign_bytes EqualEqual = codes "=="
+sign_bytes BangEqual = codes "!="
+sign_bytes Less = codes "<"
+sign_bytes LessEqual = codes "<="
+sign_bytes Greater = codes ">"
+sign_bytes GreaterEqual = codes ">="
+sign_bytes Plus = codes "+"
+sign_bytes Minus = codes "-"
+sign_bytes Star = codes "*"
+sign_bytes Slash = codes "/"
+sign_bytes Percent = codes "%"
+sign_bytes Ampersand = codes "&"
+sign_bytes Bar = codes "|"
+sign_bytes Caret = codes "^"
+sign_bytes Bang = codes "!"

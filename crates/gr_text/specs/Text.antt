@@ -1,0 +1,135 @@
+-- What the tokens of a text are, and what a text reads as: its tokens with their places, or its first fault.
+use Rattle.std.specs.Prelude.{◌≡◌, ◌≢◌, ℕ, ◌+◌, ◌<◌, ◌≤◌, ◌^◌, Bool, true, false, ◌&&◌, ◌||◌, nat_le, ◌==◌, if◌then◌else◌, List, [], ◌∷◌, ◌++◌, length, take, drop, slice_range, All, Result, Ok, Err}
+use Rattle.std.specs.List.{prefix_len}
+use Rattle.std.specs.Str.Parse.{digits_value}
+use Rattle.std.specs.Str.{IsAscii}
+use Rattle.gr_text.specs.declared.token.Keyword.{Keyword}
+use Rattle.gr_text.specs.declared.token.TokenKind.{TokenKind}
+use Rattle.gr_text.specs.declared.token.TokenKind.TheVariants as kinds
+use Rattle.gr_text.specs.declared.token.Token.{Token}
+use Rattle.gr_text.specs.declared.fault.TextError.{TextError}
+use Rattle.gr_text.specs.declared.fault.TextError.TheVariants as faults
+use Rattle.gr_text.specs.Places.{place_of}
+use Rattle.gr_text.specs.Spelling.{keyword_bytes, sign_bytes}
+
+abbrev pub Text : Type 0
+Text = List ℕ
+
+-- ---- bytes
+
+abbrev pub is_letter : ℕ → Bool
+is_letter b = (nat_le 97 b && nat_le b 122) || (nat_le 65 b && nat_le b 90) || b == 95
+
+abbrev pub is_digit : ℕ → Bool
+is_digit b = nat_le 48 b && nat_le b 57
+
+abbrev pub is_word : ℕ → Bool
+is_word b = is_letter b || is_digit b
+
+-- A space, a tab, a carriage return or a newline.
+abbrev pub is_white : ℕ → Bool
+is_white b = b == 32 || b == 9 || b == 13 || b == 10
+
+abbrev pub not_newline : ℕ → Bool
+not_newline b = if b == 10 then false else true
+
+abbrev pub are_all : (ℕ → Bool) → Text → Bool
+are_all p [] = true
+are_all p (b ∷ bytes) = p b && are_all p bytes
+
+-- How many bytes at the front are blank: one of white space, or those of a comment, from its `#` to before the next newline.
+abbrev pub blank_len : Text → ℕ
+blank_len [] = 0
+blank_len (b ∷ rest) = if is_white b then 1 else (if b == 35 then prefix_len not_newline (b ∷ rest) else 0)
+
+-- ---- tokens
+
+-- The bytes are one token of this kind, if its limits are left aside.
+abbrev pub IsToken : TokenKind → Text → Type 0
+IsToken kind [] = ⊥
+IsToken kinds.Name (b ∷ bytes) = (is_letter b ≡ true) × (are_all is_word bytes ≡ true) × ((word : Keyword) → b ∷ bytes ≢ keyword_bytes word)
+IsToken (kinds.Number n) (b ∷ bytes) = (are_all is_digit (b ∷ bytes) ≡ true) × (n ≡ digits_value 10 (b ∷ bytes))
+IsToken (kinds.Keyword word) (b ∷ bytes) = b ∷ bytes ≡ keyword_bytes word
+IsToken (kinds.Sign sign) (b ∷ bytes) = b ∷ bytes ≡ sign_bytes sign
+IsToken kinds.End (b ∷ bytes) = ⊥
+
+-- The text begins with a token of this kind and length, and with no longer one.
+pub record IsLongest (kind : TokenKind) (len : ℕ) (text : Text) : Type 0 where
+  pub within : len ≤ length text
+  pub token : IsToken kind (take len text)
+  pub longest : (other : TokenKind) (more : ℕ) → more ≤ length text → IsToken other (take more text) → more ≤ len
+
+abbrev pub BeginsNoToken : Text → Type 0
+BeginsNoToken text = (kind : TokenKind) (len : ℕ) → len ≤ length text → IsToken kind (take len text) → ⊥
+
+abbrev pub most_name : ℕ
+most_name = 32
+
+-- The limits of a token: 32 bytes for a name, 2 ^ 64 - 1 for a number.
+abbrev pub Fits : TokenKind → ℕ → Type 0
+Fits kinds.Name len = len ≤ most_name
+Fits (kinds.Number n) len = n < 2 ^ 64
+Fits (kinds.Keyword word) len = Unit {0}
+Fits (kinds.Sign sign) len = Unit {0}
+Fits kinds.End len = Unit {0}
+
+-- ---- texts
+
+-- The tokens of a text, or its first fault.
+abbrev pub Outcome : Type 0
+Outcome = Result (List Token) TextError
+
+abbrev pub with_front : Token → Outcome → Outcome
+with_front t (Ok ts) = Ok (t ∷ ts)
+with_front t (Err e) = Err e
+
+-- The token of this kind from here on, so many bytes long.
+abbrev pub token_at : Text → TokenKind → ℕ → ℕ → Token
+token_at whole kind at len = record { kind = kind; from = at; to = at + len; at = place_of whole at }
+
+-- What the rest of a whole text reads as, which begins at this place.
+pub data Reads (whole : Text) : ℕ → Text → Outcome → Type 0 where
+  ends : {at : ℕ} → Reads whole at [] (Ok (token_at whole kinds.End at 0 ∷ []))
+  blank : {at : ℕ} {text : Text} {r : Outcome} → 0 < blank_len text → Reads whole (at + blank_len text) (drop (blank_len text) text) r → Reads whole at text r
+  token : {at len : ℕ} {text : Text} {kind : TokenKind} {r : Outcome} → IsLongest kind len text → Fits kind len → Reads whole (at + len) (drop len text) r
+      → Reads whole at text (with_front (token_at whole kind at len) r)
+  too_wide : {at n len : ℕ} {text : Text} → IsLongest (kinds.Number n) len text → 2 ^ 64 ≤ n → Reads whole at text (Err (faults.NumberTooWide at))
+  too_long : {at len : ℕ} {text : Text} → IsLongest kinds.Name len text → most_name < len → Reads whole at text (Err (faults.NameTooLong at))
+  bad : {at : ℕ} {text : Text} → 0 < length text → blank_len text ≡ 0 → BeginsNoToken text → Reads whole at text (Err (faults.BadByte at))
+
+-- The text reads as this fault, unless it is only that memory is out.
+abbrev pub IsFaultOf : Text → TextError → Type 0
+IsFaultOf text faults.OutOfMemory = Unit {0}
+IsFaultOf text (faults.BadByte at) = Reads text 0 text (Err (faults.BadByte at))
+IsFaultOf text (faults.NumberTooWide at) = Reads text 0 text (Err (faults.NumberTooWide at))
+IsFaultOf text (faults.NameTooLong at) = Reads text 0 text (Err (faults.NameTooLong at))
+
+-- ---- what callers rely on
+
+-- The token is the bytes of its span, which aren't none, and it knows its place.
+pub record IsTokenOf (text : Text) (t : Token) : Type 0 where
+  pub some : t.from < t.to
+  pub within : t.to ≤ length text
+  pub token : IsToken t.kind (slice_range text t.from t.to)
+  pub ascii : t.kind ≡ kinds.Name → IsAscii (slice_range text t.from t.to)
+  pub place : t.at ≡ place_of text t.from
+
+-- Each token begins at or behind the end of the one before it.
+abbrev pub are_rising : ℕ → List Token → Type 0
+are_rising from [] = Unit {0}
+are_rising from (t ∷ ts) = (from ≤ t.from) × are_rising t.to ts
+
+-- The tokens of a text: one end behind tokens that are parts of the text in their order.
+pub record AreTokens (text : Text) (tokens : List Token) : Type 0 where
+  pub front : List Token
+  pub parts : tokens ≡ front ++ token_at text kinds.End (length text) 0 ∷ []
+  pub no_end : All (λ t. t.kind ≢ kinds.End) front
+  pub tokens_of : All (IsTokenOf text) front
+  pub rise : are_rising 0 tokens
+
+-- ---- of private contracts
+
+-- The text isn't empty, and its first byte is such a one.
+abbrev pub HasHead : (ℕ → Type 0) → Text → Type 0
+HasHead P [] = ⊥
+HasHead P (b ∷ rest) = P b
