@@ -49,3 +49,8 @@ levels-returns t c =
     let e = levels_step (spec.unary c.args.depth) c.args.below c.args.signs c.args.rest (omega arith) in
     let g = c.chain.ensures (suc c.in_ok-first.signs) (omega arith) in
     first_of (search rules, grind (arith, common_steps))
+
+pub levels-returns-in_err-first : goal.levels-returns-in_err-first
+levels-returns-in_err-first t c =
+    let e = levels_step (spec.unary c.args.depth) c.args.below c.args.signs c.args.rest (omega arith) in
+    first_of (search rules, grind (arith, common_steps))
