@@ -1,5 +1,6 @@
 -- What the words of the language mean as tokens.
 use Rattle.std.proofs.Common.{◌≡◌, ℕ, Bool, true, false, cond, Option, None, Some, List, [], ◌∷◌, refl, sym, ◌∙◌, ap}
+use Rattle.std.proofs.lemmas.List.Elements.{All-head}
 use Rattle.gr_meets.specs.Parsers.{sees}
 use Rattle.gr_lang.specs.declared.syntax.Place.{Place}
 use Rattle.gr_text.specs.declared.token.Keyword.{Keyword}
@@ -8,7 +9,7 @@ use Rattle.gr_text.specs.declared.token.Sign.{Sign}
 use Rattle.gr_text.specs.declared.token.Token.{Token}
 use Rattle.gr_text.specs.declared.token.TokenKind.{TokenKind}
 use Rattle.gr_text.specs.declared.token.TokenKind.TheVariants as kinds
-use Rattle.gr_parse.specs.Sound.{AreSound}
+use Rattle.gr_parse.specs.Sound.{IsSound, AreSound}
 use Rattle.gr_parse.specs.Tok.{Tok, tok_of_word, tok_of_kind, tok_of, toks, is_sign, is_missing, name_of, number_of, atom_of, operator}
 
 pub word_no_sign : (want : Sign) (at : Place) (w : Keyword) → is_sign want (tok_of_word at w) ≡ false
@@ -47,4 +48,4 @@ not_missing word at kinds.End h = absurd (h refl)
 pub sound_sees : (text : List ℕ) (tokens : List Token) → AreSound text tokens → sees is_missing (toks text tokens) ≡ false
 unfolding sees toks
 sound_sees text [] h = refl
-sound_sees text (t ∷ tokens) h = not_missing _ t.at t.kind h.0.no_end
+sound_sees text (t ∷ tokens) h = not_missing _ t.at t.kind (All-head (IsSound text) t tokens h).no_end
