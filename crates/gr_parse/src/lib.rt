@@ -11,8 +11,10 @@ pub mod fault;
 mod laws;
 mod lists;
 mod meaning;
+mod program;
 mod rest;
 mod starts;
 
 pub use fault::ParseError;
 pub use laws::law;
+pub use program::parse;
