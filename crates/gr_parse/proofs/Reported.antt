@@ -11,13 +11,15 @@ use Rattle.gr_text.specs.Text.{AreTokens, token_at}
 use Rattle.gr_text.specs.declared.token.Token.{Token}
 use Rattle.gr_text.specs.declared.token.TokenKind.{TokenKind}
 use Rattle.gr_text.specs.declared.token.TokenKind.TheVariants as kinds
+use Rattle.gr_parse.specs.declared.fault.ParseError.{ParseError}
+use Rattle.gr_parse.specs.declared.fault.ParseError.TheVariants as errors
 use Rattle.gr_parse.specs.declared.fault.Stop.{Stop}
 use Rattle.gr_parse.specs.declared.fault.Stop.TheVariants as stops
 use Rattle.gr_parse.specs.Tok.{Tok, toks}
 use Rattle.gr_parse.specs.Sound.{IsSound, AreSound}
-use Rattle.gr_parse.specs.Parsing.{Toks, Gives, program, plenty}
+use Rattle.gr_parse.specs.Parsing.{Toks, Fails, Gives, program, plenty}
 use Rattle.gr_parse.specs.Grammar.{IsProgram, IsProgramOf, Says}
-use Rattle.gr_parse.specs.Reports.{error_of, error_at, Stands}
+use Rattle.gr_parse.specs.Reports.{error_of, error_at, IsWithin, Reports, Stands}
 use Rattle.gr_parse.proofs.Steps.{plenty_is}
 use Rattle.gr_parse.proofs.Agree.{exact}
 use Rattle.gr_parse.proofs.Whole.{Cut, cut, toks_length, program_found, program_read, fault_at_end, fault_at_token}
@@ -44,8 +46,8 @@ made xs ys a b e f = ap (λ (q : List Item). record { items = q; end = a }) e �
 
 -- ---- what a part of the parser gave
 
-pub gave_fault : {o : Outcome Tok (List Item)} (r : Result (List Item) Stop) (stop : Stop) (left : ℕ) → Gives (λ x. (x, [])) r o → r ≡ Err stop → stop ≡ stops.Fault left → o ≡ Err left
-gave_fault {o} r stop left g e f = subst (λ (q : Result (List Item) Stop). Gives (λ x. (x, [])) q o) (e ∙ ap (λ (q : Stop). Err q) f) g
+pub gave_stop : (o : Outcome Tok (List Item)) (r : Result (List Item) Stop) (stop : Stop) → Gives (λ x. (x, [])) r o → r ≡ Err stop → Fails stop o
+gave_stop o r stop g e = subst (λ (q : Result (List Item) Stop). Gives (λ x. (x, [])) q o) e g
 
 pub gave_items : {o : Outcome Tok (List Item)} (r : Result (List Item) Stop) (xs : List Item) → Gives (λ x. (x, [])) r o → r ≡ Ok xs → o ≡ Ok (xs, [])
 gave_items {o} r xs g e = subst (λ (q : Result (List Item) Stop). Gives (λ x. (x, [])) q o) e g
@@ -125,3 +127,15 @@ module _ (text : List ℕ) (tokens : List Token) (are : AreTokens text tokens) w
       -- The error at that token says what is so.
       pub reported_fault : Says (error_at t) text tokens
       reported_fault = of_kind t.kind refl
+
+    pub stop_within : (stop : Stop) → Fails stop (program plenty ts) → IsWithin stop (length tokens)
+    stop_within stops.OutOfMemory f = tt
+    stop_within (stops.Fault left) f = reported_range left f
+
+    pub stop_only : length tokens < 2 ^ 64 → (stop : Stop) (error : ParseError) → Fails stop (program plenty ts) → Reports stop tokens error → (p : Program) → IsProgramOf text tokens p → error ≡ errors.OutOfMemory
+    stop_only few stops.OutOfMemory error f r p h = r
+    stop_only few (stops.Fault left) error f r p h = absurd (reported_none few left f p h)
+
+    pub stop_says : length tokens < 2 ^ 64 → (stop : Stop) (error : ParseError) → Fails stop (program plenty ts) → Reports stop tokens error → Says error text tokens
+    stop_says few stops.OutOfMemory error f r = subst (λ (q : ParseError). Says q text tokens) (sym r) tt
+    stop_says few (stops.Fault left) error f r = subst (λ (q : ParseError). Says q text tokens) (sym r.2) (reported_fault few left f r.0 r.1)

@@ -6,7 +6,7 @@ ghost use Rattle.gr_lang.specs.Targets.{targets_fit};
 ghost use Rattle.gr_text.specs.Text.{AreTokens};
 ghost use Rattle.gr_parse.specs.Grammar.{IsProgramOf, Says};
 ghost use Rattle.gr_parse.specs.Reports as reports;
-ghost use Rattle.gr_parse.specs.Reports.{Stands};
+ghost use Rattle.gr_parse.specs.Reports.{IsWithin, Reports, Stands};
 
 use crate::declarations::items;
 use crate::fault::{ParseError, Stop};
@@ -40,6 +40,18 @@ fn token_before(tokens: &[Token], left: usize) -> Token
     tokens[tokens.len() - 1 - left]
 }
 
+/// The error that this stop comes to.
+fn report(tokens: &[Token], stop: Stop) -> ParseError
+    requires { IsWithin stop (length tokens.now) }
+    ensures reports { Reports stop tokens.now result }
+    ensures few { length tokens.now < 2 ^ 64 }
+{
+    match stop {
+        Stop::OutOfMemory => ParseError::OutOfMemory,
+        Stop::Fault { left } => error_at(token_before(tokens, left)),
+    }
+}
+
 /// Reads the program that the tokens of a text spell.
 ///
 /// The program is the one that the grammar gives the text. Each of its assignments has as many targets as the grammar
@@ -60,7 +72,6 @@ pub fn parse(alloc: Global, text: &[u8], tokens: &Tokens) -> Result<Program, Par
             items,
             end: token_before(all, 0).at,
         }),
-        Err(Stop::OutOfMemory) => Err(ParseError::OutOfMemory),
-        Err(Stop::Fault { left }) => Err(error_at(token_before(all, left))),
+        Err(stop) => Err(report(all, stop)),
     }
 }
