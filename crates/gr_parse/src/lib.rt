@@ -13,6 +13,8 @@ mod lists;
 mod meaning;
 mod rest;
 mod starts;
+#[cfg(test)]
+mod tests;
 
 pub use fault::ParseError;
 pub use laws::law;
