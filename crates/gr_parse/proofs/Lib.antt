@@ -13,3 +13,4 @@ pub mod ItemsComplete
 pub mod Agree
 pub mod Whole
 pub mod Shaped
+pub mod Reported

@@ -17,7 +17,7 @@ use Rattle.gr_parse.proofs.Agree.{exact}
 -- ---- lists
 
 -- Where a list with one element behind it is cut at one element.
-data Cut {A : Type 0} (front : List A) (end : A) (a : List A) (t : A) (r : List A) : Type 0 where
+pub data Cut {A : Type 0} (front : List A) (end : A) (a : List A) (t : A) (r : List A) : Type 0 where
   at_end : front ≡ a → t ≡ end → r ≡ [] → Cut front end a t r
   inside : (b : List A) → front ≡ a ++ t ∷ b → r ≡ b ++ end ∷ [] → Cut front end a t r
 
@@ -25,7 +25,7 @@ one_more : {A : Type 0} (u x : A) (front a : List A) (end t : A) (r : List A) �
 one_more u x front a end t r e (Cut.at_end f g h) = let same : u ∷ front ≡ x ∷ a = cc in Cut.at_end same g h
 one_more u x front a end t r e (Cut.inside b f h) = let same : u ∷ front ≡ x ∷ (a ++ t ∷ b) = cc in Cut.inside b same h
 
-cut : {A : Type 0} (front : List A) (end : A) (a : List A) (t : A) (r : List A) → front ++ end ∷ [] ≡ a ++ t ∷ r → Cut front end a t r
+pub cut : {A : Type 0} (front : List A) (end : A) (a : List A) (t : A) (r : List A) → front ++ end ∷ [] ≡ a ++ t ∷ r → Cut front end a t r
 cut [] end [] t r e = let last : t ≡ end = cc in let none : r ≡ [] = cc in Cut.at_end refl last none
 cut [] end (x ∷ a) t r e = absurd (omega (arith, ap length e, length-append a (t ∷ r)))
 cut (u ∷ front) end [] t r e = let head : u ≡ t = cc in let tail : front ++ end ∷ [] ≡ r = cc in Cut.inside front (ap (λ q. q ∷ front) head) (sym tail)
@@ -47,7 +47,7 @@ in_middle P (u ∷ a) t b h = in_middle P a t b (All-tail P u (a ++ t ∷ b) h)
 
 -- ---- tokens
 
-toks_length : (text : List ℕ) (tokens : List Token) → length (toks text tokens) ≡ length tokens
+pub toks_length : (text : List ℕ) (tokens : List Token) → length (toks text tokens) ≡ length tokens
 unfolding toks
 toks_length text tokens = length-map tokens (tok_of text)
 

@@ -2,3 +2,4 @@ pub mod Tok
 pub mod Sound
 pub mod Parsing
 pub mod Grammar
+pub mod Reports

@@ -11,6 +11,7 @@ pub mod fault;
 mod laws;
 mod lists;
 mod meaning;
+mod program;
 mod rest;
 mod starts;
 #[cfg(test)]
@@ -18,3 +19,4 @@ mod tests;
 
 pub use fault::ParseError;
 pub use laws::law;
+pub use program::parse;
