@@ -13,11 +13,7 @@ use std::alloc::Global;
 
 /// Arguments, with room for so many nestings.
 #[tactic(auto, unfolding(crate::specs::Parsing::args))]
-pub fn args<'a>(
-    alloc: Global,
-    rest: Rest<'a>,
-    depth: usize,
-) -> Result<(Exprs, Rest<'a>), Stop>
+pub fn args<'a>(alloc: Global, rest: Rest<'a>, depth: usize) -> Result<(Exprs, Rest<'a>), Stop>
     ensures { Gives (λ x. x) result (spec.args spec.plenty depth rest.entry) }
 {
     if depth == 0 {
@@ -76,11 +72,7 @@ pub fn method<'a>(
 
 /// A call.
 #[tactic(auto, unfolding(crate::specs::Parsing::call, gr_meets::specs::Parsers::value))]
-pub fn call<'a>(
-    alloc: Global,
-    rest: Rest<'a>,
-    depth: usize,
-) -> Result<(CallText, Rest<'a>), Stop>
+pub fn call<'a>(alloc: Global, rest: Rest<'a>, depth: usize) -> Result<(CallText, Rest<'a>), Stop>
     ensures { Gives (λ x. x) result (spec.call spec.plenty depth rest.entry) }
 {
     match rest.object_ahead(alloc)? {

@@ -35,11 +35,7 @@ fn named_right<'a>(
 
 /// What stands right of `=`.
 #[tactic(auto, unfolding(crate::specs::Parsing::right_side))]
-fn right_side<'a>(
-    alloc: Global,
-    rest: Rest<'a>,
-    depth: usize,
-) -> Result<(Right, Rest<'a>), Stop>
+fn right_side<'a>(alloc: Global, rest: Rest<'a>, depth: usize) -> Result<(Right, Rest<'a>), Stop>
     ensures { Gives (λ x. x) result (spec.right_side spec.plenty depth rest.entry) }
 {
     let ahead = rest.name_ahead(alloc)?;
@@ -50,11 +46,7 @@ fn right_side<'a>(
 }
 
 /// A call of the heap, or an expression.
-fn heap_right<'a>(
-    alloc: Global,
-    rest: Rest<'a>,
-    depth: usize,
-) -> Result<(Right, Rest<'a>), Stop>
+fn heap_right<'a>(alloc: Global, rest: Rest<'a>, depth: usize) -> Result<(Right, Rest<'a>), Stop>
     ensures { Gives (λ x. x) result (spec.right_by spec.plenty depth None rest.entry) }
 {
     let ahead = rest.heap_ahead();

@@ -19,11 +19,7 @@ use std::alloc::Global;
 
 /// A statement, with room for so many nestings.
 #[cycle(statement)]
-fn statement<'a>(
-    alloc: Global,
-    rest: Rest<'a>,
-    depth: usize,
-) -> Result<(Stmt, Rest<'a>), Stop>
+fn statement<'a>(alloc: Global, rest: Rest<'a>, depth: usize) -> Result<(Stmt, Rest<'a>), Stop>
     ensures { Gives (λ x. x) result (spec.statement spec.plenty depth rest.entry) }
 {
     let ahead = rest.name_ahead(alloc)?;
@@ -35,11 +31,7 @@ fn statement<'a>(
 
 /// A statement that begins with a word of the language.
 #[cycle(statement)]
-fn word_statement<'a>(
-    alloc: Global,
-    rest: Rest<'a>,
-    depth: usize,
-) -> Result<(Stmt, Rest<'a>), Stop>
+fn word_statement<'a>(alloc: Global, rest: Rest<'a>, depth: usize) -> Result<(Stmt, Rest<'a>), Stop>
     ensures { Gives (λ x. x) result (spec.name_or spec.plenty depth (spec.block spec.plenty depth) None rest.entry) }
 {
     let ahead = rest.heap_ahead();
@@ -55,11 +47,7 @@ fn word_statement<'a>(
 /// A statement that begins with a keyword.
 #[cycle(statement)]
 #[tactic(auto, unfolding(crate::specs::Parsing::key_statement, crate::specs::Parsing::finish))]
-fn key_statement<'a>(
-    alloc: Global,
-    rest: Rest<'a>,
-    depth: usize,
-) -> Result<(Stmt, Rest<'a>), Stop>
+fn key_statement<'a>(alloc: Global, rest: Rest<'a>, depth: usize) -> Result<(Stmt, Rest<'a>), Stop>
     ensures { Gives (λ x. x) result (spec.key_statement spec.plenty depth (spec.block spec.plenty depth) rest.entry) }
 {
     if rest.sees_word(Keyword::If) {
@@ -78,11 +66,7 @@ fn key_statement<'a>(
 /// A statement behind `if`.
 #[cycle(statement)]
 #[tactic(auto, unfolding(crate::specs::Parsing::if_statement))]
-fn if_statement<'a>(
-    alloc: Global,
-    rest: Rest<'a>,
-    depth: usize,
-) -> Result<(Stmt, Rest<'a>), Stop>
+fn if_statement<'a>(alloc: Global, rest: Rest<'a>, depth: usize) -> Result<(Stmt, Rest<'a>), Stop>
     ensures { Gives (λ x. x) result (spec.if_statement depth (spec.block spec.plenty depth) rest.entry) }
 {
     let (test, rest) = expr(alloc, rest, depth)?;
@@ -94,11 +78,7 @@ fn if_statement<'a>(
 /// The block behind `else`, or an empty one.
 #[cycle(statement)]
 #[tactic(auto, unfolding(crate::specs::Parsing::else_block))]
-fn else_block<'a>(
-    alloc: Global,
-    rest: Rest<'a>,
-    depth: usize,
-) -> Result<(Block, Rest<'a>), Stop>
+fn else_block<'a>(alloc: Global, rest: Rest<'a>, depth: usize) -> Result<(Block, Rest<'a>), Stop>
     ensures { Gives (λ x. x) result (spec.else_block (spec.block spec.plenty depth) rest.entry) }
 {
     if rest.sees_word(Keyword::Else) {
@@ -124,11 +104,7 @@ fn while_statement<'a>(
 
 /// A block, with room for so many nestings.
 #[cycle(statement)]
-pub fn block<'a>(
-    alloc: Global,
-    rest: Rest<'a>,
-    depth: usize,
-) -> Result<(Block, Rest<'a>), Stop>
+pub fn block<'a>(alloc: Global, rest: Rest<'a>, depth: usize) -> Result<(Block, Rest<'a>), Stop>
     ensures { Gives (λ x. x) result (spec.block spec.plenty depth rest.entry) }
 {
     if depth == 0 {

@@ -38,11 +38,7 @@ fn negation(alloc: Global, inner: Expr) -> Result<Expr, AllocError>
 
 /// A number or a local.
 #[tactic(auto, unfolding(crate::specs::Parsing::atom, gr_meets::specs::Parsers::value))]
-fn atom<'a>(
-    alloc: Global,
-    rest: Rest<'a>,
-    signs: usize,
-) -> Result<(Expr, usize, Rest<'a>), Stop>
+fn atom<'a>(alloc: Global, rest: Rest<'a>, signs: usize) -> Result<(Expr, usize, Rest<'a>), Stop>
     ensures { Gives (λ x. ((x.0, x.1), x.2)) result (spec.atom signs rest.entry) }
 {
     match rest.atom_ahead(alloc)? {
@@ -178,11 +174,7 @@ fn chain<'a>(
 
 /// An expression, with room for so many nestings.
 #[tactic(auto, unfolding(crate::specs::Parsing::expr))]
-pub fn expr<'a>(
-    alloc: Global,
-    rest: Rest<'a>,
-    depth: usize,
-) -> Result<(Expr, Rest<'a>), Stop>
+pub fn expr<'a>(alloc: Global, rest: Rest<'a>, depth: usize) -> Result<(Expr, Rest<'a>), Stop>
     ensures { Gives (λ x. x) result (spec.expr depth rest.entry) }
 {
     let (value, _, rest) = comparison(alloc, rest, depth, MAX_SIGNS)?;

@@ -14,6 +14,8 @@ mod meaning;
 mod program;
 mod rest;
 mod starts;
+#[cfg(test)]
+mod tests;
 
 pub use fault::ParseError;
 pub use laws::law;

@@ -40,7 +40,11 @@ impl Element for Number {
 
     ghost read_one = { λ _. spec.number };
 
-    fn parse<'a>(_alloc: Global, rest: Rest<'a>, _depth: usize) -> Result<(Number, Rest<'a>), Stop> {
+    fn parse<'a>(
+        _alloc: Global,
+        rest: Rest<'a>,
+        _depth: usize,
+    ) -> Result<(Number, Rest<'a>), Stop> {
         number(rest)
     }
 }

@@ -4,8 +4,8 @@ ghost use Rattle.std.specs.Prelude.{◌≡◌};
 ghost use Rattle.gr_parse.specs.Parsing as spec;
 ghost use Rattle.gr_parse.specs.Parsing.{Gives};
 
-use crate::assignments::assignment;
 use crate::arguments::{args, method, operation};
+use crate::assignments::assignment;
 use crate::expressions::expr;
 use crate::fault::Stop;
 use crate::lists::name;
@@ -16,11 +16,7 @@ use std::alloc::Global;
 
 /// A statement behind `let`.
 #[tactic(auto, unfolding(crate::specs::Parsing::let_statement))]
-fn let_statement<'a>(
-    alloc: Global,
-    rest: Rest<'a>,
-    depth: usize,
-) -> Result<(Stmt, Rest<'a>), Stop>
+fn let_statement<'a>(alloc: Global, rest: Rest<'a>, depth: usize) -> Result<(Stmt, Rest<'a>), Stop>
     ensures { Gives (λ x. x) result (spec.let_statement spec.plenty depth rest.entry) }
 {
     let (first, rest) = name(alloc, rest)?;
@@ -89,11 +85,7 @@ fn started<'a>(
 
 /// Where a task is spawned.
 #[tactic(auto, unfolding(crate::specs::Parsing::spawned_at))]
-fn spawned_at<'a>(
-    alloc: Global,
-    rest: Rest<'a>,
-    depth: usize,
-) -> Result<(HowText, Rest<'a>), Stop>
+fn spawned_at<'a>(alloc: Global, rest: Rest<'a>, depth: usize) -> Result<(HowText, Rest<'a>), Stop>
     ensures { Gives (λ x. x) result (spec.spawned_at depth rest.entry) }
 {
     if rest.sees_word(Keyword::At) {

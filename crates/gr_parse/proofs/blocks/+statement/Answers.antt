@@ -73,9 +73,12 @@ statements-each-preserved t c =
     let p = spec.statement spec.plenty c.args.depth in
     let some = i.1 c.halts.ensures.few in
     let e = run_go stop p i.0 c.each.found c.each.rest (sym c.halts.ensures.ends ∙ c.each-test.true) (omega (arith, some)) in
-    let less = (statement_takes spec.plenty c.args.depth).less c.each.rest c.in_ok-one.one c.in_ok-one.after (got t c) in
-    (i.0 - 1, λ few. omega (arith, less, some), i.2 ∙ e ∙ ap (λ (o : read.Outcome tok.Tok Stmt). read.and_then o (λ x. read.run stop p (i.0 - 1) (c.each.found ++ x ∷ []))) (got t c)
-      ∙ ap (λ (xs : List Stmt). read.run stop p (i.0 - 1) xs c.in_ok-one.after) (sym c.in_ok-push.ensures.ok))
+    let less = (statement_takes spec.plenty c.args.depth).less c.each.rest c.in_ok-one.one c.in_ok-one.after (got t c) in (
+      i.0 - 1,
+      λ few. omega (arith, less, some),
+      i.2 ∙ e ∙ ap (λ (o : read.Outcome tok.Tok Stmt). read.and_then o (λ x. read.run stop p (i.0 - 1) (c.each.found ++ x ∷ []))) (got t c)
+          ∙ ap (λ (xs : List Stmt). read.run stop p (i.0 - 1) xs c.in_ok-one.after) (sym c.in_ok-push.ensures.ok),
+    )
 
 pub statements-returns : goal.statements-returns
 unfolding stop

@@ -33,9 +33,12 @@ each-preserved c =
     let p = spec.item spec.plenty in
     let some = i.1 c.is_empty.ensures.few in
     let e = run_go spec.never p i.0 c.each.found c.each.rest (sym c.is_empty.ensures.ends ∙ c.each-test.true) (omega (arith, some)) in
-    let less = (item_takes spec.plenty).less c.each.rest c.in_ok-one.one c.in_ok-one.after (got c) in
-    (i.0 - 1, λ few. omega (arith, less, some), i.2 ∙ e ∙ ap (λ (o : read.Outcome tok.Tok Item). read.and_then o (λ x. read.run spec.never p (i.0 - 1) (c.each.found ++ x ∷ []))) (got c)
-      ∙ ap (λ (xs : List Item). read.run spec.never p (i.0 - 1) xs c.in_ok-one.after) (sym c.in_ok-push.ensures.ok))
+    let less = (item_takes spec.plenty).less c.each.rest c.in_ok-one.one c.in_ok-one.after (got c) in (
+      i.0 - 1,
+      λ few. omega (arith, less, some),
+      i.2 ∙ e ∙ ap (λ (o : read.Outcome tok.Tok Item). read.and_then o (λ x. read.run spec.never p (i.0 - 1) (c.each.found ++ x ∷ []))) (got c)
+          ∙ ap (λ (xs : List Item). read.run spec.never p (i.0 - 1) xs c.in_ok-one.after) (sym c.in_ok-push.ensures.ok),
+    )
 
 pub returns : goal.returns
 unfolding program

@@ -34,9 +34,12 @@ chain-loop-op-preserved t c most h =
     let i = c.loop-op.invariant most h in
     let p : ℕ → read.Parser tok.Tok spec.Counted = operand c.args.depth c.args.below in
     let e = chain_some (tok.operator c.args.below) spec.two p i.0 c.loop-op.left c.loop-op.signs c.in-Some.op c.loop-op.rest (sym c.operator_ahead.ensures ∙ c.in-Some.is) (omega arith) i.1 in
-    let less = levels_less c.args.depth c.args.below (c.loop-op.signs - 1) (read.next c.loop-op.rest) (c.in_ok-right.right, c.in_ok-right.fewer) c.in_ok-right.after (got t c) in
-    (i.0 - 1, omega (arith, less, i.1), i.2 ∙ e ∙ ap (λ (o : read.Outcome tok.Tok spec.Counted). read.and_then o (λ y. read.chain (tok.operator c.args.below) spec.two p (i.0 - 1) (spec.two c.in-Some.op c.loop-op.left y.0, y.1))) (got t c)
-      ∙ ap (λ (x : Expr). read.chain (tok.operator c.args.below) spec.two p (i.0 - 1) (x, c.in_ok-right.fewer) c.in_ok-right.after) (sym (c.in_ok-left.ensures)))
+    let less = levels_less c.args.depth c.args.below (c.loop-op.signs - 1) (read.next c.loop-op.rest) (c.in_ok-right.right, c.in_ok-right.fewer) c.in_ok-right.after (got t c) in (
+      i.0 - 1,
+      omega (arith, less, i.1),
+      i.2 ∙ e ∙ ap (λ (o : read.Outcome tok.Tok spec.Counted). read.and_then o (λ y. read.chain (tok.operator c.args.below) spec.two p (i.0 - 1) (spec.two c.in-Some.op c.loop-op.left y.0, y.1))) (got t c)
+          ∙ ap (λ (x : Expr). read.chain (tok.operator c.args.below) spec.two p (i.0 - 1) (x, c.in_ok-right.fewer) c.in_ok-right.after) (sym (c.in_ok-left.ensures)),
+    )
 
 pub chain-returns : goal.chain-returns
 chain-returns t c n h =

@@ -22,9 +22,12 @@ unfolding comma
 each-init g c =
     let p = g.E.Element.read_one c.args.depth in
     let f : ◌≡◌ {A = read.Outcome tok.Tok g.row.E.Denot} (p c.args.rest) (Ok (c.in_ok-first.first, c.in_ok-first.rest)) = first_of (search rules, grind (arith, common_steps)) in
-    let found : ◌≡◌ {A = List g.row.E.Denot} (c.in_ok-first.first ∷ []) c.push.new.self = first_of (search rules, grind (arith, common_steps)) in
-    (spec.plenty, λ few. omega (arith, plenty_is, few), separated_step comma p spec.plenty c.args.rest ∙ ap (λ (o : read.Outcome tok.Tok g.row.E.Denot). read.and_then o (λ x. read.commas comma p spec.plenty (x ∷ []))) f
-      ∙ ap (λ (xs : List g.row.E.Denot). read.commas comma p spec.plenty xs c.in_ok-first.rest) found)
+    let found : ◌≡◌ {A = List g.row.E.Denot} (c.in_ok-first.first ∷ []) c.push.new.self = first_of (search rules, grind (arith, common_steps)) in (
+      spec.plenty,
+      λ few. omega (arith, plenty_is, few),
+      separated_step comma p spec.plenty c.args.rest ∙ ap (λ (o : read.Outcome tok.Tok g.row.E.Denot). read.and_then o (λ x. read.commas comma p spec.plenty (x ∷ []))) f
+          ∙ ap (λ (xs : List g.row.E.Denot). read.commas comma p spec.plenty xs c.in_ok-first.rest) found,
+    )
 
 pub returns-in_err-one : goal.returns-in_err-one
 unfolding comma
@@ -49,9 +52,12 @@ each-preserved g c =
     let less = next_less comma c.each.rest (sym c.sees.ensures.is ∙ c.each-test.true) in
     let e = commas_go comma p i.0 c.each.found c.each.rest (sym c.sees.ensures.is ∙ c.each-test.true) (omega (arith, some)) in
     let f : ◌≡◌ {A = read.Outcome tok.Tok g.row.E.Denot} (p (read.next c.each.rest)) (Ok (c.in_ok-one.one, c.in_ok-one.after)) = first_of (search rules, grind (arith, common_steps)) in
-    let found : ◌≡◌ {A = List g.row.E.Denot} (c.each.found ++ c.in_ok-one.one ∷ []) c.push-in-each.new.self = first_of (search rules, grind (arith, common_steps)) in
-    (i.0 - 1, λ few. omega (arith, less, some, ap length c.next.ensures, c.in_ok-one.ensures.shorter), i.2 ∙ e ∙ ap (λ (o : read.Outcome tok.Tok g.row.E.Denot). read.and_then o (λ x. read.commas comma p (i.0 - 1) (c.each.found ++ x ∷ []))) f
-      ∙ ap (λ (xs : List g.row.E.Denot). read.commas comma p (i.0 - 1) xs c.in_ok-one.after) found)
+    let found : ◌≡◌ {A = List g.row.E.Denot} (c.each.found ++ c.in_ok-one.one ∷ []) c.push-in-each.new.self = first_of (search rules, grind (arith, common_steps)) in (
+      i.0 - 1,
+      λ few. omega (arith, less, some, ap length c.next.ensures, c.in_ok-one.ensures.shorter),
+      i.2 ∙ e ∙ ap (λ (o : read.Outcome tok.Tok g.row.E.Denot). read.and_then o (λ x. read.commas comma p (i.0 - 1) (c.each.found ++ x ∷ []))) f
+          ∙ ap (λ (xs : List g.row.E.Denot). read.commas comma p (i.0 - 1) xs c.in_ok-one.after) found,
+    )
 
 pub returns : goal.returns
 unfolding comma
