@@ -14,3 +14,4 @@ pub mod Agree
 pub mod Whole
 pub mod Shaped
 pub mod Reported
+pub mod Unique

@@ -31,17 +31,17 @@ cut [] end (x ∷ a) t r e = absurd (omega (arith, ap length e, length-append a 
 cut (u ∷ front) end [] t r e = let head : u ≡ t = cc in let tail : front ++ end ∷ [] ≡ r = cc in Cut.inside front (ap (λ q. q ∷ front) head) (sym tail)
 cut (u ∷ front) end (x ∷ a) t r e = let head : u ≡ x = cc in let tail : front ++ end ∷ [] ≡ a ++ t ∷ r = cc in one_more u x front a end t r head (cut front end a t r tail)
 
-record Same {A : Type 0} (a f b r : List A) : Type 0 where
+pub record Same {A : Type 0} (a f b r : List A) : Type 0 where
   pub fronts : a ≡ f
   pub rests : b ≡ r
 
-same_cut : {A : Type 0} (a b f r : List A) → a ++ b ≡ f ++ r → length b ≡ length r → Same a f b r
+pub same_cut : {A : Type 0} (a b f r : List A) → a ++ b ≡ f ++ r → length b ≡ length r → Same a f b r
 same_cut [] b [] r e h = record { fronts = refl; rests = e }
 same_cut [] b (u ∷ f) r e h = absurd (omega (arith, h, ap length e, length-append f r))
 same_cut (t ∷ a) b [] r e h = absurd (omega (arith, h, ap length e, length-append a b))
 same_cut (t ∷ a) b (u ∷ f) r e h = let head : t ≡ u = cc in let tail : a ++ b ≡ f ++ r = cc in let k = same_cut a b f r tail h in let i = k.fronts in record { fronts = cc; rests = k.rests }
 
-in_middle : {A : Type 0} (P : A → Type 0) (a : List A) (t : A) (b : List A) → All P (a ++ t ∷ b) → P t
+pub in_middle : {A : Type 0} (P : A → Type 0) (a : List A) (t : A) (b : List A) → All P (a ++ t ∷ b) → P t
 in_middle P [] t b h = All-head P t b h
 in_middle P (u ∷ a) t b h = in_middle P a t b (All-tail P u (a ++ t ∷ b) h)
 
@@ -51,15 +51,15 @@ pub toks_length : (text : List ℕ) (tokens : List Token) → length (toks text 
 unfolding toks
 toks_length text tokens = length-map tokens (tok_of text)
 
-toks_append : (text : List ℕ) (a b : List Token) → toks text (a ++ b) ≡ toks text a ++ toks text b
+pub toks_append : (text : List ℕ) (a b : List Token) → toks text (a ++ b) ≡ toks text a ++ toks text b
 unfolding toks
 toks_append text a b = map-append (tok_of text) a b
 
-toks_more : (text : List ℕ) (t : Token) (b : List Token) → toks text (t ∷ b) ≡ tok_of text t ∷ toks text b
+pub toks_more : (text : List ℕ) (t : Token) (b : List Token) → toks text (t ∷ b) ≡ tok_of text t ∷ toks text b
 unfolding toks
 toks_more text t b = refl
 
-toks_none : (text : List ℕ) → toks text [] ≡ []
+pub toks_none : (text : List ℕ) → toks text [] ≡ []
 unfolding toks
 toks_none text = refl
 

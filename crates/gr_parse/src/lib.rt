@@ -18,5 +18,5 @@ mod starts;
 mod tests;
 
 pub use fault::ParseError;
-pub use laws::law;
+pub use laws::answers_are_unique;
 pub use program::parse;
