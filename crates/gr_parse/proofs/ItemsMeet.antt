@@ -27,11 +27,11 @@ array_meets =
     let close : Toks = Tok.sign signs.RightBracket ∷ (Tok.sign signs.Semicolon ∷ []) in
     name_then
     (λ n. expect_then (sign_test signs.LeftBracket)
-      (number_then
-      (λ w. expect_then (sign_test signs.RightBracket)
-        (semicolon_then (meets_pure IsItem.array) [] (items.Array n w) IsItem.array)
-        (Tok.sign signs.Semicolon ∷ []) (items.Array n w) IsItem.array)
-      (Tok.number nought ∷ close) (items.Array n nought) IsItem.array)
+    (number_then
+    (λ w. expect_then (sign_test signs.RightBracket)
+    (semicolon_then (meets_pure IsItem.array) [] (items.Array n w) IsItem.array)
+    (Tok.sign signs.Semicolon ∷ []) (items.Array n w) IsItem.array)
+    (Tok.number nought ∷ close) (items.Array n nought) IsItem.array)
     (Tok.number nought ∷ close) (items.Array n nought) IsItem.array)
     (Tok.name nameless ∷ (Tok.sign signs.LeftBracket ∷ (Tok.number nought ∷ close))) (items.Array nameless nought) IsItem.array
 
@@ -59,10 +59,10 @@ input_meets turns =
     let one : Separated (Tok.sign signs.Comma) IsNumber (Tok.number nought ∷ []) (nought ∷ []) = Separated.last IsNumber.number in
     name_then
     (λ n. expect_then (sign_test signs.Assign)
-      (bind (numbers_meets turns)
-      (λ ws. semicolon_then (meets_pure (λ a h. IsItem.input h)) [] (items.Input n ws) (λ a h. IsItem.input h))
-      (λ a ws h. (Tok.sign signs.Semicolon ∷ [], items.Input n ws, IsItem.input h)))
-      (Tok.number nought ∷ (Tok.sign signs.Semicolon ∷ [])) (items.Input n (nought ∷ [])) (IsItem.input one))
+    (bind (numbers_meets turns)
+    (λ ws. semicolon_then (meets_pure (λ a h. IsItem.input h)) [] (items.Input n ws) (λ a h. IsItem.input h))
+    (λ a ws h. (Tok.sign signs.Semicolon ∷ [], items.Input n ws, IsItem.input h)))
+    (Tok.number nought ∷ (Tok.sign signs.Semicolon ∷ [])) (items.Input n (nought ∷ [])) (IsItem.input one))
     (Tok.name nameless ∷ (Tok.sign signs.Assign ∷ (Tok.number nought ∷ (Tok.sign signs.Semicolon ∷ [])))) (items.Input nameless (nought ∷ [])) (IsItem.input one)
 
 -- The parameters of a task, with their brackets.

@@ -182,16 +182,16 @@ forall_meets turns d =
     let k = nought_is d in
     bind (expr_meets d)
     (λ lo. expect_then (sign_test signs.DotDot)
-      (bind (expr_meets d)
-      (λ hi. expect_then (key_test keys.Grain)
-        (bind (expr_meets d)
-        (λ grain. forall_task_meets turns d lo hi grain
-          (λ v y. (c : Toks) → IsExpr d c grain → (b : Toks) → IsExpr d b hi → (a : Toks) → IsExpr d a lo → IsStmt d (Tok.key keys.Forall ∷ (a ++ Tok.sign signs.DotDot ∷ (b ++ Tok.key keys.Grain ∷ (c ++ v)))) y)
-          (λ n ts xs j c h b g a f. IsStmt.forall_loop f g h j))
-        (λ c grain h. (task, st.Forall lo hi grain nameless [], λ b g a f. IsStmt.forall_loop f g h any.1)))
-        (one ++ task) (st.Forall lo hi zero_one nameless []) (λ b g a f. IsStmt.forall_loop f g k any.1))
-      (λ b hi g. (grained, st.Forall lo hi zero_one nameless [], λ a f. IsStmt.forall_loop f g k any.1)))
-      (one ++ grained) (st.Forall lo zero_one zero_one nameless []) (λ a f. IsStmt.forall_loop f k k any.1))
+    (bind (expr_meets d)
+    (λ hi. expect_then (key_test keys.Grain)
+    (bind (expr_meets d)
+    (λ grain. forall_task_meets turns d lo hi grain
+    (λ v y. (c : Toks) → IsExpr d c grain → (b : Toks) → IsExpr d b hi → (a : Toks) → IsExpr d a lo → IsStmt d (Tok.key keys.Forall ∷ (a ++ Tok.sign signs.DotDot ∷ (b ++ Tok.key keys.Grain ∷ (c ++ v)))) y)
+    (λ n ts xs j c h b g a f. IsStmt.forall_loop f g h j))
+    (λ c grain h. (task, st.Forall lo hi grain nameless [], λ b g a f. IsStmt.forall_loop f g h any.1)))
+    (one ++ task) (st.Forall lo hi zero_one nameless []) (λ b g a f. IsStmt.forall_loop f g k any.1))
+    (λ b hi g. (grained, st.Forall lo hi zero_one nameless [], λ a f. IsStmt.forall_loop f g k any.1)))
+    (one ++ grained) (st.Forall lo zero_one zero_one nameless []) (λ a f. IsStmt.forall_loop f k k any.1))
     (λ a lo f. (Tok.sign signs.DotDot ∷ (one ++ grained), st.Forall lo zero_one zero_one nameless [], IsStmt.forall_loop f k k any.1))
 
 plain_meets : (turns d : ℕ) → Meets (plain_statement turns d) (IsStmt d) (IsStmt d)

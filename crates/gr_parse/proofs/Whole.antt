@@ -99,7 +99,7 @@ module _ (text : List ℕ) (tokens front : List Token) (end : Token) (parts : to
       refused_token : (b : List Token) → toks text (t ∷ b) ≡ first.rest → toks text a ≡ first.front → Continues IsProgram (toks text (a ++ t ∷ [])) → ⊥
       refused_token b e f =
           let refused : IsRefused IsProgram (toks text a) (tok_of text t ∷ toks text b) = subst (λ (u : Toks). IsRefused IsProgram u (tok_of text t ∷ toks text b)) (sym f)
-              (subst (IsRefused IsProgram first.front) (sym e ∙ toks_more text t b) first.refused) in
+          (subst (IsRefused IsProgram first.front) (sym e ∙ toks_more text t b) first.refused) in
           let spelled : toks text (a ++ t ∷ []) ≡ toks text a ++ tok_of text t ∷ [] = toks_append text a (t ∷ []) ∙ ap (λ (u : Toks). toks text a ++ u) (toks_more text t [] ∙ ap (λ (u : Toks). tok_of text t ∷ u) (toks_none text)) in
           subst (λ (u : Toks). Continues IsProgram u → ⊥) (sym spelled) refused
 
