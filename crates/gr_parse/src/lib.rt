@@ -2,8 +2,21 @@
 //! continues no program.
 #![tactic(auto)]
 
+mod arguments;
+mod assignments;
+mod blocks;
+mod declarations;
+mod expressions;
 pub mod fault;
 mod laws;
+mod lists;
+mod meaning;
+mod program;
+mod rest;
+mod starts;
+#[cfg(test)]
+mod tests;
 
 pub use fault::ParseError;
-pub use laws::law;
+pub use laws::answers_are_unique;
+pub use program::parse;

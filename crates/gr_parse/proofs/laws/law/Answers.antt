@@ -1,5 +1,0 @@
-use Rattle.std.proofs.Common.{refl}
-use Rattle.gr_parse.proofs.laws.law.Goals as goal
-
-pub returns : goal.returns
-returns c = refl
