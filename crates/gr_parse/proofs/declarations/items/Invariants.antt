@@ -1,0 +1,11 @@
+use Rattle.std.proofs.Common.{◌≡◌, ℕ, ◌<◌, ◌^◌, [], length}
+use Rattle.gr_meets.specs.Parsers as read
+use Rattle.gr_parse.specs.Parsing as spec
+use Rattle.gr_parse.proofs.declarations.items.Given as goal
+
+abbrev pub invariant-each : goal.invariant-each
+invariant-each l = (n : ℕ) × (length l.rest < 2 ^ 64 → length l.rest < n)
+    × (read.run spec.never (spec.item spec.plenty) spec.plenty [] l.fn.tokens ≡ read.run spec.never (spec.item spec.plenty) n l.found l.rest)
+
+abbrev pub decreases-each : goal.decreases-each
+decreases-each l = length l.rest

@@ -1,0 +1,5 @@
+pub mod Tok
+pub mod Sound
+pub mod Parsing
+pub mod Grammar
+pub mod Reports

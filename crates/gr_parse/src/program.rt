@@ -1,0 +1,77 @@
+//! The program of a text.
+
+ghost use Rattle.std.specs.Prelude.{◌≡◌, ◌<◌, ◌^◌, true, length, IfOk, IfErr, MatchResult};
+ghost use Rattle.gr_lang.specs.declared.syntax.Program.{Program as ProgramValue};
+ghost use Rattle.gr_lang.specs.Targets.{targets_fit};
+ghost use Rattle.gr_text.specs.Text.{AreTokens};
+ghost use Rattle.gr_parse.specs.Grammar.{IsProgramOf, Says};
+ghost use Rattle.gr_parse.specs.Reports as reports;
+ghost use Rattle.gr_parse.specs.Reports.{IsWithin, Reports, Stands};
+
+use crate::declarations::items;
+use crate::fault::{ParseError, Stop};
+use crate::rest::Rest;
+use gr_lang::syntax::Program;
+use gr_text::token::{Token, TokenKind, Tokens};
+use std::alloc::Global;
+
+/// The error where the first fault is at this token.
+fn error_at(token: Token) -> ParseError
+    ensures { result ≡ reports.error_at token }
+{
+    match token.kind {
+        TokenKind::End => ParseError::UnexpectedEnd {
+            line: token.at.line,
+            column: token.at.column,
+        },
+        _ => ParseError::Unexpected {
+            line: token.at.line,
+            column: token.at.column,
+        },
+    }
+}
+
+/// The token behind which so many are left.
+fn token_before(tokens: &[Token], left: usize) -> Token
+    requires { left < length tokens.now }
+    ensures stands { Stands result tokens.now left }
+    ensures few { length tokens.now < 2 ^ 64 }
+{
+    tokens[tokens.len() - 1 - left]
+}
+
+/// The error that this stop comes to.
+fn report(tokens: &[Token], stop: Stop) -> ParseError
+    requires { IsWithin stop (length tokens.now) }
+    ensures reports { Reports stop tokens.now result }
+    ensures few { length tokens.now < 2 ^ 64 }
+{
+    match stop {
+        Stop::OutOfMemory => ParseError::OutOfMemory,
+        Stop::Fault { left } => error_at(token_before(tokens, left)),
+    }
+}
+
+/// Reads the program that the tokens of a text spell.
+///
+/// The program is the one that the grammar gives the text. Each of its assignments has as many targets as the grammar
+/// allows. The error names the line and the column of the first token with which no program goes on, or those
+/// of the end of the text where a program would have to go on, counted from 1. There may be no memory.
+pub fn parse(alloc: Global, text: &[u8], tokens: &Tokens) -> Result<Program, ParseError>
+    requires { AreTokens text.now tokens.now }
+    ensures found { IfOk result (λ p. IsProgramOf text.now tokens.now p) }
+    ensures only { (p : ProgramValue) → IsProgramOf text.now tokens.now p → MatchResult result (λ q. q ≡ p) (λ e. e ≡ ParseError.OutOfMemory) }
+    ensures fault { IfErr result (λ e. Says e text.now tokens.now) }
+    ensures shaped { IfOk result (λ p. targets_fit p ≡ true) }
+{
+    let all = tokens.as_slice();
+    let last = all.len() - 1;
+    let read = items(alloc, Rest::new(text, &all[..last]));
+    match read {
+        Ok(items) => Ok(Program {
+            items,
+            end: token_before(all, 0).at,
+        }),
+        Err(stop) => Err(report(all, stop)),
+    }
+}

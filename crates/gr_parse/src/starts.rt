@@ -1,0 +1,174 @@
+//! Statements without a block.
+
+ghost use Rattle.std.specs.Prelude.{◌≡◌};
+ghost use Rattle.gr_parse.specs.Parsing as spec;
+ghost use Rattle.gr_parse.specs.Parsing.{Gives};
+
+use crate::arguments::{args, method, operation};
+use crate::assignments::assignment;
+use crate::expressions::expr;
+use crate::fault::Stop;
+use crate::lists::name;
+use crate::rest::Rest;
+use gr_lang::syntax::{Expr, HowText, Name, Stmt};
+use gr_text::token::{Keyword, Sign};
+use std::alloc::Global;
+
+/// A statement behind `let`.
+#[tactic(auto, unfolding(crate::specs::Parsing::let_statement))]
+fn let_statement<'a>(alloc: Global, rest: Rest<'a>, depth: usize) -> Result<(Stmt, Rest<'a>), Stop>
+    ensures { Gives (λ x. x) result (spec.let_statement spec.plenty depth rest.entry) }
+{
+    let (first, rest) = name(alloc, rest)?;
+    assignment(alloc, rest, depth, true, first)
+}
+
+/// A statement behind the name that it begins with.
+#[tactic(auto, unfolding(crate::specs::Parsing::named_statement, crate::specs::Parsing::semicolon))]
+pub fn named_statement<'a>(
+    alloc: Global,
+    rest: Rest<'a>,
+    depth: usize,
+    first: Name,
+) -> Result<(Stmt, Rest<'a>), Stop>
+    ensures { Gives (λ x. x) result (spec.named_statement spec.plenty depth first rest.entry) }
+{
+    if rest.sees(Sign::Dot) {
+        let (call, rest) = operation(alloc, rest.next(), depth, first)?;
+        let rest = rest.expect(Sign::Semicolon)?;
+        return Ok((Stmt::Do { call }, rest));
+    }
+    assignment(alloc, rest, depth, false, first)
+}
+
+/// A statement behind `heap`.
+#[tactic(auto, unfolding(crate::specs::Parsing::heap_statement, crate::specs::Parsing::semicolon))]
+pub fn heap_statement<'a>(
+    alloc: Global,
+    rest: Rest<'a>,
+    depth: usize,
+    object: Name,
+) -> Result<(Stmt, Rest<'a>), Stop>
+    ensures { Gives (λ x. x) result (spec.heap_statement spec.plenty depth object rest.entry) }
+{
+    let (call, rest) = method(alloc, rest, depth, object)?;
+    let rest = rest.expect(Sign::Semicolon)?;
+    Ok((Stmt::Do { call }, rest))
+}
+
+/// A statement behind `print`.
+#[tactic(auto, unfolding(crate::specs::Parsing::print, crate::specs::Parsing::semicolon))]
+fn print<'a>(alloc: Global, rest: Rest<'a>, depth: usize) -> Result<(Stmt, Rest<'a>), Stop>
+    ensures { Gives (λ x. x) result (spec.print depth rest.entry) }
+{
+    let (value, rest) = expr(alloc, rest, depth)?;
+    let rest = rest.expect(Sign::Semicolon)?;
+    Ok((Stmt::Print { value }, rest))
+}
+
+/// A task's name and its arguments.
+#[tactic(auto, unfolding(crate::specs::Parsing::started, crate::specs::Parsing::semicolon))]
+fn started<'a>(
+    alloc: Global,
+    rest: Rest<'a>,
+    depth: usize,
+    how: HowText,
+) -> Result<(Stmt, Rest<'a>), Stop>
+    ensures { Gives (λ x. x) result (spec.started spec.plenty depth how rest.entry) }
+{
+    let (target, rest) = name(alloc, rest)?;
+    let (args, rest) = args(alloc, rest, depth)?;
+    let rest = rest.expect(Sign::Semicolon)?;
+    let statement = Stmt::Spawn { how, target, args };
+    Ok((statement, rest))
+}
+
+/// Where a task is spawned.
+#[tactic(auto, unfolding(crate::specs::Parsing::spawned_at))]
+fn spawned_at<'a>(alloc: Global, rest: Rest<'a>, depth: usize) -> Result<(HowText, Rest<'a>), Stop>
+    ensures { Gives (λ x. x) result (spec.spawned_at depth rest.entry) }
+{
+    if rest.sees_word(Keyword::At) {
+        let (core, rest) = expr(alloc, rest.next(), depth)?;
+        return Ok((HowText::At { core }, rest));
+    }
+    Ok((HowText::Here, rest))
+}
+
+/// A statement behind `spawn`.
+#[tactic(auto, unfolding(crate::specs::Parsing::spawn))]
+fn spawn<'a>(alloc: Global, rest: Rest<'a>, depth: usize) -> Result<(Stmt, Rest<'a>), Stop>
+    ensures { Gives (λ x. x) result (spec.spawn spec.plenty depth rest.entry) }
+{
+    let (how, rest) = spawned_at(alloc, rest, depth)?;
+    started(alloc, rest, depth, how)
+}
+
+/// The task of a `forall`, and its arguments.
+#[tactic(auto, unfolding(crate::specs::Parsing::forall_task, crate::specs::Parsing::semicolon))]
+fn forall_task<'a>(
+    alloc: Global,
+    rest: Rest<'a>,
+    depth: usize,
+    lo: Expr,
+    hi: Expr,
+    grain: Expr,
+) -> Result<(Stmt, Rest<'a>), Stop>
+    ensures { Gives (λ x. x) result (spec.forall_task spec.plenty depth lo hi grain rest.entry) }
+{
+    let (target, rest) = name(alloc, rest)?;
+    let (args, rest) = args(alloc, rest, depth)?;
+    let rest = rest.expect(Sign::Semicolon)?;
+    let statement = Stmt::Forall {
+        lo,
+        hi,
+        grain,
+        target,
+        args,
+    };
+    Ok((statement, rest))
+}
+
+/// A statement behind `forall`.
+#[tactic(auto, unfolding(crate::specs::Parsing::forall_statement))]
+fn forall_statement<'a>(
+    alloc: Global,
+    rest: Rest<'a>,
+    depth: usize,
+) -> Result<(Stmt, Rest<'a>), Stop>
+    ensures { Gives (λ x. x) result (spec.forall_statement spec.plenty depth rest.entry) }
+{
+    let (lo, rest) = expr(alloc, rest, depth)?;
+    let rest = rest.expect(Sign::DotDot)?;
+    let (hi, rest) = expr(alloc, rest, depth)?;
+    let rest = rest.expect_word(Keyword::Grain)?;
+    let (grain, rest) = expr(alloc, rest, depth)?;
+    forall_task(alloc, rest, depth, lo, hi, grain)
+}
+
+/// A statement that begins with a keyword and has no block.
+#[tactic(auto, unfolding(crate::specs::Parsing::plain_statement))]
+pub fn plain_statement<'a>(
+    alloc: Global,
+    rest: Rest<'a>,
+    depth: usize,
+) -> Result<(Stmt, Rest<'a>), Stop>
+    ensures { Gives (λ x. x) result (spec.plain_statement spec.plenty depth rest.entry) }
+{
+    if rest.sees_word(Keyword::Let) {
+        return let_statement(alloc, rest.next(), depth);
+    }
+    if rest.sees_word(Keyword::Print) {
+        return print(alloc, rest.next(), depth);
+    }
+    if rest.sees_word(Keyword::Spawn) {
+        return spawn(alloc, rest.next(), depth);
+    }
+    if rest.sees_word(Keyword::Offer) {
+        return started(alloc, rest.next(), depth, HowText::Offer);
+    }
+    if rest.sees_word(Keyword::Forall) {
+        return forall_statement(alloc, rest.next(), depth);
+    }
+    Err(rest.refusal())
+}
