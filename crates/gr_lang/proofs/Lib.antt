@@ -1,3 +1,4 @@
 pub mod TaskIds
 pub mod Nexts
 pub mod Opens
+pub mod AcceptedRows

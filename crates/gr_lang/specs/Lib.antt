@@ -1,6 +1,14 @@
 pub mod Faults
 pub mod Operations
 pub mod Fields
+pub mod Names
+pub mod Declarations
+pub mod Sites
+pub mod Targets
+pub mod Walks
+pub mod Conditions
+pub mod Accepted
+pub mod AcceptedRows
 pub mod Locals
 pub mod Expressions
 pub mod Objects

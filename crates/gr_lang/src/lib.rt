@@ -2,8 +2,10 @@
 //! program means on one plain memory.
 #![tactic(auto)]
 
+pub mod accepted;
 pub mod action;
 pub mod lists;
 pub mod operation;
 pub mod refusal;
+pub mod rows;
 pub mod syntax;
