@@ -1,0 +1,6 @@
+pub mod Hits
+pub mod Ranges
+pub mod Reaches
+pub mod Known
+pub mod Stacks
+pub mod Unders
