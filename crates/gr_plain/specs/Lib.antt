@@ -1,0 +1,5 @@
+pub mod LineView
+pub mod ThingView
+pub mod ThingCalls
+pub mod BlockView
+pub mod MemoryView
