@@ -143,10 +143,14 @@ impl Line {
     }
 
     /// The last word, if there is one.
+    #[tactic(auto, using(crate::proofs::Lines::lines))]
     pub fn last(&self) -> Option<u64>
         ensures { result ≡ last_of self.now }
     {
-        self.words.back().copied()
+        match self.words.back() {
+            Some(word) => Some(*word),
+            None => None,
+        }
     }
 
     /// Puts a word behind the others. `Err` when memory runs out.

@@ -1,10 +1,11 @@
 //! The objects of a plain memory: arrays, sets, maps and vectors, each with what a call does to it.
-ghost use Rattle.std.specs.Prelude.{◌≡◌, OnOk};
+ghost use Rattle.std.specs.Prelude.{◌≡◌, ℕ, All, OnOk, []};
 ghost use Rattle.std.specs.FinMap as fin;
 ghost use Rattle.std.specs.FinSet as set;
 ghost use Rattle.gr_lang.specs.Objects as spec;
+ghost use Rattle.gr_lang.specs.Expressions.{number_of};
 ghost use Rattle.gr_plain.specs.ThingCalls.{line_after, line_reply, map_after, map_reply, set_after, set_reply, thing_after, thing_reply, things_after, things_reply};
-ghost use Rattle.gr_plain.specs.ThingView.{thing_of, things_of};
+ghost use Rattle.gr_plain.specs.ThingView.{thing_of, things_of, LiesIn};
 
 use crate::objects_parts::{Keys, Line, Pairs};
 use gr_lang::action::{Op, Reply};
@@ -221,7 +222,8 @@ impl Thing {
 
     /// Makes a call; the object stays where it isn't of the call's kind. `Err` when memory runs out.
     pub fn apply(&mut self, op: Op) -> Result<(), AllocError>
-        ensures { OnOk result (thing_of self.new ≡ thing_after op (thing_of self.old)) }
+        ensures value { OnOk result (thing_of self.new ≡ thing_after op (thing_of self.old)) }
+        ensures lies { (n : ℕ) → LiesIn n self.old → LiesIn n self.new }
     {
         match self {
             Thing::Array { .. } => Ok(()),
@@ -229,5 +231,28 @@ impl Thing {
             Thing::Map { held } => change_map(held, op),
             Thing::Vector { held } => change_line(held, op),
         }
+    }
+}
+
+/// What the object with this number replies to a call; no word where there is no such object.
+pub fn reply_of(things: &[Thing], object: u64, op: Op) -> Reply
+    ensures { result ≡ things_reply op (things_of things.now) object }
+{
+    match things.get(object as usize) {
+        Some(thing) => thing.reply(op),
+        None => nothing(),
+    }
+}
+
+/// Makes a call at the object with this number, if there is one. `Err` when memory runs out.
+pub fn apply_at(things: &mut [Thing], object: u64, op: Op) -> Result<(), AllocError>
+    ensures value { OnOk result (things_of things.new ≡ things_after op (things_of things.old) object) }
+    ensures lie { (n : ℕ) → All (LiesIn n) things.old → All (LiesIn n) things.new }
+{
+    let at = object as usize;
+    if at < things.len() {
+        things[at].apply(op)
+    } else {
+        Ok(())
     }
 }
