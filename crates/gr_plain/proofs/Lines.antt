@@ -1,22 +1,7 @@
 -- A list without its last word, and that word.
-use Rattle.std.proofs.Common.{◌≡◌, ℕ, ◌+◌, ◌-◌, ◌<◌, suc, List, [], ◌∷◌, ◌++◌, length, Option, Some, None, slice_index_or, refl, sym, ap, ◌∙◌, arith}
-use Rattle.std.specs.Option.{MatchOption, option_to_list}
+use Rattle.std.proofs.Common.{◌≡◌, ℕ, ◌+◌, ◌-◌, ◌<◌, suc, List, [], ◌∷◌, length, take, Option, Some, None, slice_index_or, refl, sym, ap, ◌∙◌, arith}
 use Rattle.gr_lang.specs.Objects.{but_last}
 use Rattle.gr_plain.specs.LineView.{but_last_of, last_of}
-
-but_last-append : (w : ℕ) (ys : List ℕ) (x : ℕ) → but_last w (ys ++ x ∷ []) ≡ (w ∷ ys, x)
-but_last-append w [] x = refl
-but_last-append w (y ∷ ys) x = ap (λ (p : List ℕ × ℕ). (w ∷ p.0, p.1)) (but_last-append y ys x)
-
-without : (ys : List ℕ) (x : ℕ) → but_last_of (ys ++ x ∷ []) ≡ ys
-without [] x = refl
-without (y ∷ ys) x = ap (λ (p : List ℕ × ℕ). p.0) (but_last-append y ys x)
-
--- what `pop_back` leaves
-pub popped : (old new : List ℕ) (r : Option ℕ) → old ≡ new ++ option_to_list r → MatchOption r ((length old ≡ 0) × (length new ≡ 0)) (λ _. length new + 1 ≡ length old) → new ≡ but_last_of old
-popped old [] None e h = ap but_last_of (sym e)
-popped old (x ∷ new) None e h = absurd (omega (arith, h.1))
-popped old new (Some x) e h = sym (ap but_last_of e ∙ without new x)
 
 but_last-item : (w : ℕ) (ws : List ℕ) (d : ℕ) → (but_last w ws).1 ≡ slice_index_or (w ∷ ws) (length ws) d
 but_last-item w [] d = refl
@@ -34,4 +19,13 @@ pub last_none : (xs : List ℕ) → length xs ≡ 0 → None ≡ last_of xs
 last_none [] h = refl
 last_none (w ∷ ws) h = absurd (omega (arith, h))
 
-pub ruleset lines = (last_is, last_none)
+but_last-take : (w : ℕ) (ws : List ℕ) → (but_last w ws).0 ≡ take (length ws) (w ∷ ws)
+but_last-take w [] = refl
+but_last-take w (v ∷ vs) = ap (λ us. w ∷ us) (but_last-take v vs)
+
+-- what `pop_back` leaves
+pub but_last_is : (xs : List ℕ) → but_last_of xs ≡ take (length xs - 1) xs
+but_last_is [] = refl
+but_last_is (w ∷ ws) = but_last-take w ws ∙ ap (λ n. take n (w ∷ ws)) (sym (one_less (length ws)))
+
+pub ruleset lines = (last_is, last_none, but_last_is)

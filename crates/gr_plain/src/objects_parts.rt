@@ -162,6 +162,7 @@ impl Line {
     }
 
     /// Takes the last word out, if there is one.
+    #[tactic(auto, using(crate::proofs::Lines::lines))]
     pub fn pop(&mut self)
         ensures { self.new ≡ but_last_of self.old }
     {

@@ -245,6 +245,7 @@ pub fn reply_of(things: &[Thing], object: u64, op: Op) -> Reply
 }
 
 /// Makes a call at the object with this number, if there is one. `Err` when memory runs out.
+#[tactic(auto, using(crate::proofs::AtThing::at_things))]
 pub fn apply_at(things: &mut [Thing], object: u64, op: Op) -> Result<(), AllocError>
     ensures value { OnOk result (things_of things.new ≡ things_after op (things_of things.old) object) }
     ensures lie { (n : ℕ) → All (LiesIn n) things.old → All (LiesIn n) things.new }
