@@ -4,6 +4,4 @@ use Rattle.gr_plain.specs.ThingView.{LiesIn}
 use Rattle.gr_plain.proofs.objects_things.apply_at.Goals as goal
 
 pub returns-then-at-things-clause-lie : goal.returns-then-at-things-clause-lie
-returns-then-at-things-clause-lie c n h =
-    let before : LiesIn n c.index-things-at.result = subst (LiesIn n) (sym c.index-things-at.is) (All-get_or (LiesIn n) c.args.things.now c.args.object c.index-things-at.result c.if-at-things.true h) in
-    All-set (LiesIn n) c.args.things.now c.args.object c.apply.new.self (c.apply.ensures.lies n before) h
+returns-then-at-things-clause-lie c n h = All-set (LiesIn n) c.args.things.now c.args.object c.apply.new.self (c.apply.ensures.lies n (All-get_or (LiesIn n) c.args.things.now c.args.object c.index-things-at.result c.if-at-things.true h)) h
