@@ -106,19 +106,19 @@ impl Memory {
         ensures { result ≡ (spec.call op self.now).1 }
     {
         match op {
-            Op::Read { object, place } => self.word_reply(object, place),
-            Op::Add { object, place, .. } => self.word_reply(object, place),
-            Op::Cas { object, place, .. } => self.word_reply(object, place),
-            Op::Reduce { object, place, .. } => self.word_reply(object, place),
-            Op::Insert { object, .. } => self.thing_reply(object, op),
-            Op::Remove { object, .. } => self.thing_reply(object, op),
-            Op::Has { object, .. } => self.thing_reply(object, op),
-            Op::Put { object, .. } => self.thing_reply(object, op),
-            Op::Get { object, .. } => self.thing_reply(object, op),
-            Op::Erase { object, .. } => self.thing_reply(object, op),
-            Op::Merge { object, .. } => self.thing_reply(object, op),
-            Op::Pop { object } => self.thing_reply(object, op),
-            Op::Dequeue { object } => self.thing_reply(object, op),
+            Op::Read { object, place }
+            | Op::Add { object, place, .. }
+            | Op::Cas { object, place, .. }
+            | Op::Reduce { object, place, .. } => self.word_reply(object, place),
+            Op::Insert { object, .. }
+            | Op::Remove { object, .. }
+            | Op::Has { object, .. }
+            | Op::Put { object, .. }
+            | Op::Get { object, .. }
+            | Op::Erase { object, .. }
+            | Op::Merge { object, .. }
+            | Op::Pop { object }
+            | Op::Dequeue { object } => self.thing_reply(object, op),
             Op::Alloc { count } => self.alloc_reply(count),
             Op::Free { place } => self.free_reply(place),
             Op::Write { .. } | Op::Push { .. } | Op::Print { .. } => nothing(),
@@ -169,30 +169,21 @@ impl Memory {
         ensures { OnOk result (self.new ≡ (spec.call op self.old).0) }
     {
         match op {
-            Op::Write { object, place, .. } => {
+            Op::Write { object, place, .. }
+            | Op::Add { object, place, .. }
+            | Op::Cas { object, place, .. }
+            | Op::Reduce { object, place, .. } => {
                 self.change_word(object, place, op);
                 Ok(())
             }
-            Op::Add { object, place, .. } => {
-                self.change_word(object, place, op);
-                Ok(())
-            }
-            Op::Cas { object, place, .. } => {
-                self.change_word(object, place, op);
-                Ok(())
-            }
-            Op::Reduce { object, place, .. } => {
-                self.change_word(object, place, op);
-                Ok(())
-            }
-            Op::Insert { object, .. } => self.change_thing(object, op),
-            Op::Remove { object, .. } => self.change_thing(object, op),
-            Op::Put { object, .. } => self.change_thing(object, op),
-            Op::Erase { object, .. } => self.change_thing(object, op),
-            Op::Merge { object, .. } => self.change_thing(object, op),
-            Op::Push { object, .. } => self.change_thing(object, op),
-            Op::Pop { object } => self.change_thing(object, op),
-            Op::Dequeue { object } => self.change_thing(object, op),
+            Op::Insert { object, .. }
+            | Op::Remove { object, .. }
+            | Op::Put { object, .. }
+            | Op::Erase { object, .. }
+            | Op::Merge { object, .. }
+            | Op::Push { object, .. }
+            | Op::Pop { object }
+            | Op::Dequeue { object } => self.change_thing(object, op),
             Op::Alloc { count } => self.alloc(count),
             Op::Free { place } => {
                 self.free(place);

@@ -1,5 +1,5 @@
 //! The objects of a plain memory: arrays, sets, maps and vectors, each with what a call does to it.
-ghost use Rattle.std.specs.Prelude.{◌≡◌, ℕ, All, OnOk, []};
+ghost use Rattle.std.specs.Prelude.{◌≡◌, ◌+◌, ◌≤◌, ℕ, All, OnOk, []};
 ghost use Rattle.std.specs.FinMap as fin;
 ghost use Rattle.std.specs.FinSet as set;
 ghost use Rattle.gr_lang.specs.Objects as spec;
@@ -176,14 +176,16 @@ fn line_answer(held: &Line, op: Op) -> Reply
 impl Thing {
     /// An array of `count` words from the address `from` on.
     pub fn array(from: u64, count: u64) -> Thing
-        ensures { thing_of result ≡ spec.array from count }
+        ensures value { thing_of result ≡ spec.array from count }
+        ensures lies { (n : ℕ) → from + count ≤ n → LiesIn n result }
     {
         Thing::Array { from, count }
     }
 
     /// An empty set.
     pub fn set(alloc: Global) -> Thing
-        ensures { thing_of result ≡ spec.keys set.empty }
+        ensures value { thing_of result ≡ spec.keys set.empty }
+        ensures lies { (n : ℕ) → LiesIn n result }
     {
         Thing::Set {
             held: Keys::new(alloc),
@@ -192,7 +194,8 @@ impl Thing {
 
     /// An empty map.
     pub fn map(alloc: Global) -> Thing
-        ensures { thing_of result ≡ spec.pairs fin.empty }
+        ensures value { thing_of result ≡ spec.pairs fin.empty }
+        ensures lies { (n : ℕ) → LiesIn n result }
     {
         Thing::Map {
             held: Pairs::new(alloc),
@@ -201,7 +204,8 @@ impl Thing {
 
     /// An empty vector.
     pub fn vector(alloc: Global) -> Thing
-        ensures { thing_of result ≡ spec.line [] }
+        ensures value { thing_of result ≡ spec.line [] }
+        ensures lies { (n : ℕ) → LiesIn n result }
     {
         Thing::Vector {
             held: Line::new(alloc),
