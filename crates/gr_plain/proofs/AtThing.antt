@@ -1,12 +1,12 @@
 -- What stands at a place among the objects, and the objects with another one there.
-use Rattle.std.proofs.Common.{◌≡◌, ℕ, ◌<◌, List, Option, Some, None, refl, sym, ap, ◌∙◌, length, subst}
-use Rattle.std.proofs.lemmas.List.{map-set, set-get_or}
-use Rattle.std.proofs.lemmas.Option.{slice_get-map, slice_get-get_or, get_or_from_slice_get}
-use Rattle.std.specs.Prelude.{slice_get, slice_set, slice_index_or, map, All}
+use Rattle.std.proofs.Common.{◌≡◌, ℕ, ◌<◌, List, Some, sym, ap, ◌∙◌, length}
+use Rattle.std.proofs.lemmas.List.{map-set}
+use Rattle.std.proofs.lemmas.Option.{slice_get-map, slice_get-get_or}
+use Rattle.std.specs.Prelude.{slice_get, slice_set, slice_index_or}
 use Rattle.std.specs.Option.{option_map}
 use Rattle.gr_lang.specs.declared.action.Op.{Op}
 use Rattle.gr_plain.specs.declared.objects_things.Thing.{Thing}
-use Rattle.gr_plain.specs.ThingView.{thing_of, things_of, LiesIn}
+use Rattle.gr_plain.specs.ThingView.{thing_of, things_of}
 use Rattle.gr_plain.specs.ThingCalls.{thing_after, things_after, after_at}
 
 found_at : (xs : List Thing) (i : ℕ) (d : Thing) → i < length xs → slice_get (things_of xs) i ≡ Some (thing_of (slice_index_or xs i d))

@@ -1,5 +1,5 @@
 -- The search for a free place goes on from the end of a block that it meets.
-use Rattle.std.proofs.Common.{◌≡◌, ℕ, zero, suc, ◌+◌, ◌-◌, ◌<◌, ◌≤◌, List, [], ◌∷◌, length, Bool, true, false, ◌&&◌, ◌||◌, nat_le, Option, Some, None, refl, sym, ap, ◌∙◌, arith, slice_index_or, if◌then◌else◌, cond, not, ◌==◌}
+use Rattle.std.proofs.Common.{◌≡◌, ℕ, zero, suc, ◌+◌, ◌-◌, ◌<◌, List, [], ◌∷◌, length, Bool, true, false, ◌&&◌, ◌||◌, nat_le, Some, None, refl, sym, ap, ◌∙◌, arith, slice_index_or, if◌then◌else◌, cond, not, ◌==◌}
 use Rattle.std.specs.List.{filter}
 use Rattle.gr_lang.specs.Objects.{Live, is_free, least_start}
 use Rattle.gr_plain.specs.declared.objects_blocks.Block.{Block}

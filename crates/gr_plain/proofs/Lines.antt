@@ -1,5 +1,5 @@
 -- A list without its last word, and that word.
-use Rattle.std.proofs.Common.{◌≡◌, ℕ, ◌+◌, ◌-◌, ◌<◌, suc, List, [], ◌∷◌, length, take, Option, Some, None, slice_index_or, refl, sym, ap, ◌∙◌, arith}
+use Rattle.std.proofs.Common.{◌≡◌, ℕ, ◌-◌, ◌<◌, suc, List, [], ◌∷◌, length, take, Some, None, slice_index_or, refl, sym, ap, ◌∙◌, arith}
 use Rattle.gr_lang.specs.Objects.{but_last}
 use Rattle.gr_plain.specs.LineView.{but_last_of, last_of}
 

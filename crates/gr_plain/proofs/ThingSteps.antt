@@ -4,7 +4,6 @@ use Rattle.std.proofs.lemmas.List.{set-get_or}
 use Rattle.std.proofs.lemmas.Option.{get_or_from_slice_get}
 use Rattle.std.specs.Prelude.{slice_get, slice_set}
 use Rattle.gr_lang.specs.Objects.{Object, Objects, array, keys, pairs, line, call, insert_in, remove_in, put_in, erase_in, push_in, pop_in, dequeue_in, merged}
-use Rattle.gr_lang.specs.declared.action.Op.{Op}
 use Rattle.gr_lang.specs.declared.action.Op.TheVariants as op
 use Rattle.gr_plain.specs.ThingCalls.{after_at, things_after}
 

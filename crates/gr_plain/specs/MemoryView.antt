@@ -1,5 +1,5 @@
 -- The memory as the definitions see it, and what always holds of it.
-use Rattle.std.specs.Prelude.{◌+◌, ◌≤◌, ◌<◌, ◌^◌, length, All}
+use Rattle.std.specs.Prelude.{◌+◌, ◌≤◌, length, All}
 use Rattle.gr_lang.specs.Objects.{Objects}
 use Rattle.gr_plain.specs.declared.memory.Memory.TheInside.{Inside}
 use Rattle.gr_plain.specs.ThingView.{things_of, LiesIn}

@@ -4,4 +4,6 @@
 pub mod memory;
 pub mod objects_blocks;
 pub mod objects_parts;
+#[cfg(test)]
+mod objects_tests;
 pub mod objects_things;

@@ -232,13 +232,7 @@ fn changed_word(op: Op, before: u64) -> u64
     match op {
         Op::Write { word, .. } => word,
         Op::Add { word, .. } => before.wrapping_add(word),
-        Op::Cas { old, new, .. } => {
-            if before == old {
-                new
-            } else {
-                before
-            }
-        }
+        Op::Cas { old, new, .. } => { if before == old { new } else { before } }
         Op::Reduce { reducer, word, .. } => reduced(reducer, before, word),
         _ => before,
     }

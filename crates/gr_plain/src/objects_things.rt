@@ -53,10 +53,7 @@ pub fn found(word: Option<u64>) -> Reply
     ensures { result ≡ spec.found word }
 {
     match word {
-        Some(second) => Reply {
-            first: 1,
-            second,
-        },
+        Some(second) => Reply { first: 1, second },
         None => nothing(),
     }
 }
@@ -107,7 +104,12 @@ fn change_map(held: &mut Pairs, op: Op) -> Result<(), AllocError>
 {
     match op {
         Op::Put { key, word, .. } => held.put(key, word),
-        Op::Merge { reducer, key, word, .. } => {
+        Op::Merge {
+            reducer,
+            key,
+            word,
+            ..
+        } => {
             let word = merged(reducer, held.get(key), word);
             held.put(key, word)
         }

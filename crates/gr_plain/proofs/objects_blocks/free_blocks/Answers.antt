@@ -7,7 +7,6 @@ use Rattle.std.specs.Prelude.{All}
 use Rattle.gr_plain.proofs.Blocks.{lives-filter}
 use Rattle.gr_plain.proofs.objects_blocks.free_blocks.Goals as goal
 
-
 pub returns-clause-value : goal.returns-clause-value
 returns-clause-value c =
     let kept : c.retain.new.self.items ≡ filter (λ b. not (b.start == c.args.at)) c.args.live.now.items = filter_same _ _ _ (λ x b f' k. search rules) _ _ c.retain.ensures.filtered in

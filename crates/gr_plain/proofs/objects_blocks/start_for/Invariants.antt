@@ -1,4 +1,4 @@
-use Rattle.std.proofs.Common.{◌≡◌, ◌+◌, ◌-◌, ◌≤◌}
+use Rattle.std.proofs.Common.{◌≡◌, ◌+◌, ◌-◌}
 use Rattle.gr_lang.specs.Objects.{least_start}
 use Rattle.gr_plain.specs.BlockView.{lives_of}
 use Rattle.gr_plain.proofs.objects_blocks.start_for.Given as goal

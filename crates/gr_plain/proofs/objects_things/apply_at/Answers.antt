@@ -1,4 +1,3 @@
-use Rattle.std.proofs.Common.{subst, sym}
 use Rattle.std.proofs.lemmas.List.Elements.{All-set, All-get_or}
 use Rattle.gr_plain.specs.ThingView.{LiesIn}
 use Rattle.gr_plain.proofs.objects_things.apply_at.Goals as goal
