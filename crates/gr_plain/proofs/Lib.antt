@@ -1,6 +1,12 @@
+pub mod Lines
+pub mod Trees
+pub mod AtThing
+pub mod Blocks
+pub mod ThingSteps
 pub mod Hits
 pub mod Ranges
 pub mod Reaches
 pub mod Known
 pub mod Stacks
 pub mod Unders
+pub mod Begins

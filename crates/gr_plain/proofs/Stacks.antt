@@ -4,7 +4,7 @@ use Rattle.std.specs.List.{list_any}
 use Rattle.gr_plain.specs.StackView.{above, newest_first}
 
 length_over : (xs below : List ℕ) → length (fold above below xs) ≡ length xs + length below
-length_over [] below = refl
+length_over [] below = omega arith
 length_over (x ∷ xs) below = length_over xs (x ∷ below) ∙ omega arith
 
 pub stack_length : (xs : List ℕ) → length (newest_first xs) ≡ length xs
@@ -13,7 +13,8 @@ stack_length xs = length_over xs [] ∙ omega arith
 moved : (a b c : Bool) → (a || (b || c)) ≡ ((b || a) || c)
 moved true true c = refl
 moved true false c = refl
-moved false b c = refl
+moved false true c = refl
+moved false false c = refl
 
 any_over : (p : ℕ → Bool) (xs below : List ℕ) → list_any p (fold above below xs) ≡ (list_any p xs || list_any p below)
 any_over p [] below = refl

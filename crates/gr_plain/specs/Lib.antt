@@ -1,3 +1,8 @@
+pub mod LineView
+pub mod ThingView
+pub mod ThingCalls
+pub mod BlockView
+pub mod MemoryView
 pub mod LocalView
 pub mod Ranges
 pub mod TableView
@@ -5,3 +10,6 @@ pub mod RunningView
 pub mod Turns
 pub mod StackView
 pub mod ScopeView
+pub mod TaskView
+pub mod Held
+pub mod PlainView

@@ -64,7 +64,6 @@ impl<'a> Model for Running<'a> {
 
 impl<'a> Running<'a> {
     /// How the task of this number starts with these arguments.
-    #[tactic(auto, using(crate::proofs::Known::start_is))]
     pub fn start(
         alloc: Global,
         table: &Table<'a>,
@@ -233,7 +232,7 @@ impl<'a> Running<'a> {
     }
 
     /// One pure step, where it may be made, or the next action.
-    #[tactic(auto, unfolding(gr_lang::specs::Next::look), using(gr_lang::proofs::Opens::opens, crate::proofs::Ranges::ranges))]
+    #[tactic(auto, unfolding(gr_lang::specs::Next::look), using(gr_lang::proofs::Opens::opens))]
     fn turn(&mut self, alloc: Global, table: &Table, may_move: bool) -> Result<Turn, AllocError>
         ensures { IfOk result (λ turn. Turns may_move (look table.now self.old) self.old turn self.new) }
     {
@@ -250,9 +249,10 @@ impl<'a> Running<'a> {
                 Stmt::Do { call } => Ok(Turn::Acts {
                     action: call_action(alloc, table, self.locals(), call)?,
                 }),
-                Stmt::Print { value } => Ok(Turn::Acts {
-                    action: print_action(self.locals(), value),
-                }),
+                Stmt::Print { value } => {
+                    let action = print_action(self.locals(), value);
+                    Ok(Turn::Acts { action })
+                }
                 Stmt::If { test, yes, no } => self.turn_if(may_move, test, yes, no),
                 Stmt::While { test, body } => self.turn_while(may_move, test, body),
                 Stmt::Finish { .. } => Ok(Turn::Acts {
@@ -267,16 +267,11 @@ impl<'a> Running<'a> {
                     grain,
                     target,
                     args,
-                } => Ok(Turn::Acts {
-                    action: loop_action(
-                        alloc,
-                        table,
-                        self.locals(),
-                        range_of(self.locals(), lo, hi, grain),
-                        target,
-                        args,
-                    )?,
-                }),
+                } => {
+                    let range = range_of(self.locals(), lo, hi, grain);
+                    let action = loop_action(alloc, table, self.locals(), range, target, args)?;
+                    Ok(Turn::Acts { action })
+                }
             },
         }
     }

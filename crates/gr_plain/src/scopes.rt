@@ -142,11 +142,14 @@ pub fn are_ranges_left(scopes: &[ScopeRow], s: u64) -> bool
 }
 
 /// The index of that scope's range has begun.
+#[tactic(auto, using(crate::proofs::Begins::begins))]
 pub fn begin(scopes: &mut [ScopeRow], scope: u64, index: u64) -> Result<(), AllocError>
     ensures { OnOk result (scopes.new ≡ begun_at scopes.old scope index) }
 {
-    match scopes.get_mut(scope as usize) {
-        None => Ok(()),
-        Some(row) => row.begin(index),
+    let at = scope as usize;
+    if at < scopes.len() {
+        scopes[at].begin(index)
+    } else {
+        Ok(())
     }
 }
