@@ -8,8 +8,8 @@ use Rattle.std.proofs.lemmas.Iterator.Adapters.{position_from-zero}
 use Rattle.std.proofs.lemmas.Option.{slice_get-map}
 use Rattle.gr_lang.specs.declared.syntax.Program.{Program}
 use Rattle.gr_lang.specs.Openings.{TaskText, tasks_of, target_of}
-use Rattle.gr_lang.specs.Next.{Running, runs, given, start, start_at}
-use Rattle.gr_plain.specs.TableView.{Known, known_of, knowns_of, number_from}
+use Rattle.gr_lang.specs.Next.{start, start_at}
+use Rattle.gr_plain.specs.TableView.{Known, known_of, knowns_of, number_from, started}
 
 position_known : (ts : List TaskText) (name : List ℕ) (k : ℕ) → unwrap_or (position_from (λ t. bytes_eq name t.name) k ts) 0 ≡ number_from k (knowns_of ts) name
 position_known [] name k = refl
@@ -21,11 +21,6 @@ position_known (t ∷ ts) name k =
 
 pub target_is : (p : Program) (name : List ℕ) → target_of p name ≡ number_from 0 (knowns_of (tasks_of p.items)) name
 target_is p name = ap (λ (o : Option ℕ). unwrap_or o 0) (position_from-zero (λ (t : TaskText). bytes_eq name t.name) (tasks_of p.items)) ∙ position_known (tasks_of p.items) name 0
-
--- A task of the table, at its start.
-abbrev pub started : Option Known → List ℕ → Running
-started None ws = record { todo = []; locals = [] }
-started (Some t) ws = record { todo = runs t.body; locals = given t.locals ws }
 
 
 pub start_is : (p : Program) (target : ℕ) (ws : List ℕ) → start p target ws ≡ started (slice_get (knowns_of (tasks_of p.items)) target) ws

@@ -10,3 +10,6 @@ pub mod Known
 pub mod Stacks
 pub mod Unders
 pub mod Begins
+pub mod Histories
+pub mod Zeros
+pub mod Looks

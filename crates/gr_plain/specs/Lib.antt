@@ -13,3 +13,4 @@ pub mod ScopeView
 pub mod TaskView
 pub mod Held
 pub mod PlainView
+pub mod Laws

@@ -10,7 +10,7 @@ use Rattle.gr_lang.specs.declared.syntax.Number.{Number}
 use Rattle.gr_lang.specs.declared.syntax.Program.{Program}
 use Rattle.gr_lang.specs.declared.syntax.Stmt.{Stmt}
 use Rattle.gr_lang.specs.Openings.{TaskText, object_names, tasks_of, heap_of}
-use Rattle.gr_lang.specs.Next.{lets_of}
+use Rattle.gr_lang.specs.Next.{Running, given, lets_of, runs}
 
 -- A task of the text, with the names of its locals.
 pub record Known : Type 0 where
@@ -26,6 +26,11 @@ known_of t = record { name = t.name; locals = t.params ++ lets_of t.body; body =
 
 abbrev pub knowns_of : List TaskText → List Known
 knowns_of = map known_of
+
+-- A task of the table, at its start.
+abbrev pub started : Option Known → List ℕ → Running
+started None ws = record { todo = []; locals = [] }
+started (Some t) ws = record { todo = runs t.body; locals = given t.locals ws }
 
 -- The number of the first task of that name, where the list starts with number k; 0 where there is none.
 abbrev pub number_from : ℕ → List Known → List ℕ → ℕ

@@ -4,6 +4,7 @@
 pub mod actions;
 pub mod dues;
 pub mod expressions;
+pub mod laws;
 pub mod locals;
 pub mod memory;
 pub mod objects_blocks;
@@ -11,7 +12,10 @@ pub mod objects_parts;
 #[cfg(test)]
 mod objects_tests;
 pub mod objects_things;
+pub mod opening;
 pub mod plain;
+#[cfg(test)]
+mod plain_tests;
 pub mod running;
 pub mod scopes;
 pub mod table;

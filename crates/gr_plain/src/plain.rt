@@ -3,7 +3,7 @@ ghost use Rattle.std.specs.Prelude.{◌≡◌, ◌∷◌, ◌++◌, [], IfOk, If
 ghost use Rattle.std.specs.FinMap as fin;
 ghost use Rattle.std.specs.Option.{option_map};
 ghost use Rattle.gr_lang.specs.Objects.{call, nothing};
-ghost use Rattle.gr_lang.specs.States.{at_loop, child as child_task, left as work_left};
+ghost use Rattle.gr_lang.specs.States.{at_loop, child as child_task, left as work_left, opening_state};
 ghost use Rattle.gr_lang.specs.Steps.{goes_on as gone_on, is_new as is_new_id, set_task};
 ghost use Rattle.gr_plain.specs.Held.{begin_args, due_begin, due_call, due_end, due_finish, due_loop, due_pass, due_spawn, due_trap, entry_due, loop_scope, stepped, with_state};
 ghost use Rattle.gr_plain.specs.ScopeView.{begun_at, range_of};
@@ -12,15 +12,21 @@ ghost use Rattle.gr_plain.specs.TaskView.{mode_of};
 
 use crate::dues::{call_in, has_core, is_arrive, is_end, is_finish, is_loop, is_spawn, is_trap};
 use crate::memory::Memory;
+use crate::opening::open_memory;
 use crate::scopes::{RangeRow, ScopeRow, are_ranges_left, begin};
 use crate::table::Table;
 use crate::tasks::{Mode, Row, Tasks, no_reply};
 use crate::word_stack::WordStack;
+use gr_lang::accepted::Accepted;
 use gr_lang::action::{Action, Entry, How, Op, Reply, TaskId, TrapKind};
 use gr_lang::lists::Words;
+use gr_lang::syntax::Text;
 use std::alloc::{AllocError, Global};
 use std::marker::Model;
 use thiserror::Error;
+
+/// The first task.
+const MAIN: TaskId = TaskId { core: 0, number: 0 };
 
 /// Why an entry wasn't taken.
 #[derive(Debug, Drop, Error)]
@@ -34,7 +40,7 @@ pub enum StepError {
 }
 
 impl From<AllocError> for StepError {
-    ghost use Prelude.{◌≡◌};
+    ghost use Rattle.std.specs.Prelude.{◌≡◌};
     ghost use Rattle.gr_plain.specs.declared.plain.StepError.TheVariants as error;
 
     ghost from_gives = { λ e r. r ≡ error.OutOfMemory };
@@ -76,6 +82,41 @@ impl<'a> Model for Plain<'a> {
 }
 
 impl<'a> Plain<'a> {
+    /// The state before the first entry: the opening objects, and `main` at its first action. `steps` is
+    /// the limit of pure steps between two actions.
+    pub fn start(
+        alloc: Global,
+        program: &'a Accepted,
+        cores: u64,
+        steps: u64,
+    ) -> Result<Plain<'a>, AllocError>
+        ensures { IfOk result (λ plain. plain ≡ record { program = program.now; cores = cores; steps = steps; state = opening_state program.now steps }) }
+    {
+        let text = program.program();
+        let (memory, heap) = open_memory(alloc, text)?;
+        let table = Table::new(alloc, text, heap)?;
+        let main = Text::new("main".to_string(alloc)?);
+        let target = table.target_of(&main);
+        let row = Row::start(alloc, &table, steps, 0, target, &[])?;
+        let mut tasks = Tasks::new(alloc);
+        tasks.put(MAIN, row)?;
+        let mut scopes = Vec::new(alloc);
+        scopes.push(ScopeRow {
+            owner: None,
+            parent: 0,
+            range: None,
+        })?;
+        Ok(Plain {
+            table,
+            cores,
+            steps,
+            memory,
+            tasks,
+            scopes,
+            passed: false,
+        })
+    }
+
     fn goes_on(&mut self, alloc: Global, id: TaskId, reply: Reply) -> Result<(), AllocError>
         ensures { OnOk result (IfSome (fin.get self.old.state.tasks id) (λ t. self.new ≡ with_state self.old (set_task self.old.state id (gone_on self.old.program self.old.steps t reply)))) }
     {

@@ -1,13 +1,14 @@
 //! What a task still has to do, and how it comes to its next action.
-ghost use Rattle.std.specs.Prelude.{◌≡◌, ◌∷◌, ◌++◌, [], OnOk, IfOk};
+ghost use Rattle.std.specs.Prelude.{◌≡◌, ◌∷◌, ◌++◌, [], OnOk, IfOk, Some};
 ghost use Rattle.gr_lang.specs.Next.{arrive, go_on, look, look_if, look_set, look_while, next, runs, set_all, start};
 ghost use Rattle.gr_lang.specs.Expressions.{value};
 ghost use Rattle.gr_plain.specs.Turns.{IsTop, tail_of, Turns};
+ghost use Rattle.gr_plain.specs.TableView.{row_of, started};
 
 use crate::actions::{call_action, loop_action, print_action, range_of, spawn_action};
 use crate::expressions::value_of;
 use crate::locals::LocalWords;
-use crate::table::Table;
+use crate::table::{Table, TaskRow};
 use gr_lang::action::{Action, Reply, TrapKind};
 use gr_lang::syntax::{Block, Expr, Names, Right, Stmt};
 use std::alloc::{AllocError, Global};
@@ -72,16 +73,23 @@ impl<'a> Running<'a> {
     ) -> Result<Running<'a>, AllocError>
         ensures { IfOk result (λ running. running ≡ start table.now target args.now) }
     {
-        let found = table.task(target);
-        match found {
+        match table.task(target) {
             None => Ok(Running::new(alloc, LocalWords::start(alloc, &[], args)?)),
-            Some(row) => {
-                let locals = LocalWords::start(alloc, row.locals.as_slice(), args)?;
-                let mut running = Running::new(alloc, locals);
-                running.push_block(row.body.as_slice())?;
-                Ok(running)
-            }
+            Some(row) => Running::begin(alloc, row, args),
         }
+    }
+
+    fn begin(
+        alloc: Global,
+        row: &TaskRow<'a>,
+        args: &[u64],
+    ) -> Result<Running<'a>, AllocError>
+        ensures { IfOk result (λ running. running ≡ started (Some (row_of row.now)) args.now) }
+    {
+        let locals = LocalWords::start(alloc, row.locals.as_slice(), args)?;
+        let mut running = Running::new(alloc, locals);
+        running.push_block(row.body.as_slice())?;
+        Ok(running)
     }
 
     /// A task that has nothing to do yet, with these locals.

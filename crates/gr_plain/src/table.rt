@@ -1,12 +1,13 @@
 //! The tables of a program, made once as a run opens: its objects and tasks by name and by number.
-ghost use Rattle.std.specs.Prelude.{◌≡◌, is_some, map, slice_get};
+ghost use Rattle.std.specs.Prelude.{◌≡◌, IfOk, is_some, map, slice_get};
 ghost use Rattle.gr_lang.specs.Objects.{address, heap_address};
 ghost use Rattle.gr_lang.specs.Openings.{heap_of, object_of, opening, target_of, tasks_of};
-ghost use Rattle.gr_plain.specs.TableView.{knowns_of, number_from, reaches_of, row_of, within};
+ghost use Rattle.gr_plain.specs.TableView.{IsHeap, knowns_of, number_from, reaches_of, row_of, within};
 ghost use Rattle.std.specs.Option.{option_map};
 
+use crate::opening::{object_names_of, reaches_in, task_rows};
 use gr_lang::operation::HEAP;
-use gr_lang::syntax::{Block, Item, Program, Text};
+use gr_lang::syntax::{Block, Program, Text};
 use std::alloc::{AllocError, Global};
 use std::marker::Model;
 
@@ -66,6 +67,28 @@ fn number_of(tasks: &[TaskRow], name: &Text) -> u64
 }
 
 impl<'a> Table<'a> {
+    /// The tables of a program whose heap lies there.
+    pub fn new(
+        alloc: Global,
+        program: &'a Program,
+        heap: HeapRange,
+    ) -> Result<Table<'a>, AllocError>
+        requires { IsHeap heap program.now }
+        ensures { IfOk result (λ table. table ≡ program.now) }
+    {
+        let items = program.items.as_slice();
+        let objects = object_names_of(alloc, items)?;
+        let reaches = reaches_in(alloc, items)?;
+        let tasks = task_rows(alloc, items)?;
+        Ok(Table {
+            program,
+            objects,
+            reaches,
+            tasks,
+            heap,
+        })
+    }
+
     /// The number of the object of that name; 255 for the heap.
     pub fn object_of(&self, name: &Text) -> u64
         ensures { result ≡ object_of self.now name.now }

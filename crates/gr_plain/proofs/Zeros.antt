@@ -1,0 +1,7 @@
+-- Zeros one by one.
+use Rattle.std.proofs.Common.{◌≡◌, ℕ, zero, suc, ◌-◌, ◌<◌, List, ◌∷◌, ap, arith}
+use Rattle.std.specs.Prelude.{replicate}
+
+pub zeros_step : (n : ℕ) → 0 < n → replicate n 0 ≡ 0 ∷ replicate (n - 1) 0
+zeros_step zero lt = absurd (omega arith)
+zeros_step (suc n) lt = ap (λ k. 0 ∷ replicate k 0) (omega arith)
