@@ -65,6 +65,7 @@ impl<'a> Model for Running<'a> {
 
 impl<'a> Running<'a> {
     /// How the task of this number starts with these arguments.
+    #[tactic(auto, using(crate::proofs::Known::start_is))]
     pub fn start(
         alloc: Global,
         table: &Table<'a>,
