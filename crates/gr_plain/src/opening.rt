@@ -231,21 +231,27 @@ fn heap_words_of(items: &[Item]) -> u64
     0
 }
 
+/// Whether it is no array, or one that lies in so many words.
+fn lies_in(thing: &Thing, count: usize) -> bool
+    ensures { IsTrue result → LiesIn count thing.now }
+{
+    match thing {
+        Thing::Array { from, count: words } => match from.checked_add(*words) {
+            None => false,
+            Some(end) => end <= count as u64,
+        },
+        _ => true,
+    }
+}
+
 /// Whether all arrays lie in so many words.
 fn lie_in(things: &[Thing], count: usize) -> bool
     ensures { IsTrue result → All (LiesIn count) things.now }
 {
     for thing in things {
-        match thing {
-            Thing::Array { from, count: words } => match from.checked_add(*words) {
-                None => return false,
-                Some(end) => {
-                    if end > count as u64 {
-                        return false;
-                    }
-                }
-            },
-            _ => (),
+        let is_inside = lies_in(thing, count);
+        if !is_inside {
+            return false;
         }
     }
     true

@@ -1,9 +1,10 @@
-use Rattle.std.proofs.Common.{◌≡◌, ◌∷◌, ◌∙◌, sym, ap, refl}
+use Rattle.std.proofs.Common.{◌≡◌, ℕ, List, Option, ◌∷◌, ◌∙◌, sym, ap, refl}
+use Rattle.gr_lang.specs.declared.action.Action.{Action}
 use Rattle.gr_lang.specs.Expressions.{values}
-use Rattle.gr_lang.specs.Next.{run, acts, acted, loop_action, print_action}
-use Rattle.gr_plain.specs.Ranges.{range_words, ranged}
+use Rattle.gr_lang.specs.Next.{run, acts, print_action}
+use Rattle.gr_plain.specs.Ranges.{range_words}
 use Rattle.gr_plain.specs.Turns.{tail_of}
-use Rattle.gr_plain.proofs.Looks.{look_print, look_forall}
+use Rattle.gr_plain.proofs.Looks.{look_print, look_forall, looped}
 use Rattle.gr_plain.proofs.running.Running.turn.Goals as goal
 
 pub returns-in-Print : goal.returns-in-Print
@@ -14,7 +15,7 @@ returns-in-Print c = (
 pub returns-in_ok-action-in-Forall : goal.returns-in_ok-action-in-Forall
 returns-in_ok-action-in-Forall c =
     let f = c.in-Forall in
-    let made = λ range words. acted (loop_action c.args.table.now f.target) (ranged range words) in (
+    let made : Option (ℕ × ℕ × ℕ) → Option (List ℕ) → Action = looped c.args.table.now f.target in (
     look_forall c.args.table.now c.args.self.now f.lo f.hi f.grain f.target f.args (tail_of c.args.self.now.todo) (c.in-Run.ensures ∙ ap (λ x. run x ∷ tail_of c.args.self.now.todo) f.is)
     ∙ ap acts (
         ap (λ l. made (range_words l f.lo f.hi f.grain) (values c.args.self.now.locals f.args)) (sym c.locals-in-Forall.ensures)
