@@ -22,7 +22,6 @@ position_known (t ∷ ts) name k =
 pub target_is : (p : Program) (name : List ℕ) → target_of p name ≡ number_from 0 (knowns_of (tasks_of p.items)) name
 target_is p name = ap (λ (o : Option ℕ). unwrap_or o 0) (position_from-zero (λ (t : TaskText). bytes_eq name t.name) (tasks_of p.items)) ∙ position_known (tasks_of p.items) name 0
 
-
 pub start_is : (p : Program) (target : ℕ) (ws : List ℕ) → start p target ws ≡ started (slice_get (knowns_of (tasks_of p.items)) target) ws
 unfolding start
 start_is p target ws = rw (slice_get-map known_of (tasks_of p.items) target) (elim (slice_get (tasks_of p.items) target) as (λ o. start_at o ws ≡ started (option_map known_of o) ws) [ None ↦ refl | Some t ↦ refl ])

@@ -8,7 +8,7 @@ use Rattle.gr_plain.specs.Ranges.{range_words, ranged}
 
 joined : (a b c : Option ℕ) (rest : Option (List ℕ))
     → option_and_then (λ w. option_map (λ ws. w ∷ ws) (option_and_then (λ v. option_map (λ ws. v ∷ ws) (option_and_then (λ u. option_map (λ ws. u ∷ ws) rest) c)) b)) a
-      ≡ ranged (option_and_then (λ x. option_and_then (λ y. option_map (λ z. (x, y, z)) c) b) a) rest
+    ≡ ranged (option_and_then (λ x. option_and_then (λ y. option_map (λ z. (x, y, z)) c) b) a) rest
 joined None b c rest = refl
 joined (Some x) None c rest = refl
 joined (Some x) (Some y) None rest = refl

@@ -168,13 +168,7 @@ pub fn call_action(
             let object = table.object_of(&call.object.text);
             let reducer = reducer_number(&call.reducer);
             let operation = operation_of(&call.op.text);
-            Ok(named_action(
-                table,
-                operation,
-                object,
-                reducer,
-                words.as_slice(),
-            ))
+            Ok(named_action(table, operation, object, reducer, words.as_slice()))
         }
     }
 }
@@ -220,12 +214,7 @@ pub fn spawn_action(
 }
 
 /// The bounds and the grain of a loop; None where one divides by 0.
-pub fn range_of(
-    locals: &LocalWords,
-    lo: &Expr,
-    hi: &Expr,
-    grain: &Expr,
-) -> Option<(u64, u64, u64)>
+pub fn range_of(locals: &LocalWords, lo: &Expr, hi: &Expr, grain: &Expr) -> Option<(u64, u64, u64)>
     ensures { result ≡ range_words locals.now lo.now hi.now grain.now }
 {
     let lo = value_of(locals, lo)?;

@@ -73,14 +73,7 @@ pub fn is_arrive(action: &Action) -> bool
 }
 
 /// Whether it is the loop from `lo` to below `hi` with this grain and task.
-pub fn is_loop(
-    action: &Action,
-    lo: u64,
-    hi: u64,
-    grain: u64,
-    target: u64,
-    args: &Words,
-) -> bool
+pub fn is_loop(action: &Action, lo: u64, hi: u64, grain: u64, target: u64, args: &Words) -> bool
     ensures { result ≡ loop_due action.now lo hi grain target args.now }
 {
     match action {

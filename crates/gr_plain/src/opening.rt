@@ -12,10 +12,7 @@ use gr_lang::syntax::{Item, Names, Number, Program, Stmt, Text};
 use std::alloc::{AllocError, Global};
 
 /// The names of the objects other than the heap.
-pub fn object_names_of<'a>(
-    alloc: Global,
-    items: &'a [Item],
-) -> Result<Vec<&'a Text>, AllocError>
+pub fn object_names_of<'a>(alloc: Global, items: &'a [Item]) -> Result<Vec<&'a Text>, AllocError>
     ensures { IfOk result (λ names. map (λ n. n.now) names.items ≡ object_names items.now) }
 {
     let mut names = Vec::new(alloc);
@@ -108,10 +105,7 @@ fn locals_of<'a>(
 }
 
 /// The tasks of the text.
-pub fn task_rows<'a>(
-    alloc: Global,
-    items: &'a [Item],
-) -> Result<Vec<TaskRow<'a>>, AllocError>
+pub fn task_rows<'a>(alloc: Global, items: &'a [Item]) -> Result<Vec<TaskRow<'a>>, AllocError>
     ensures { IfOk result (λ rows. map row_of rows.items ≡ knowns_of (tasks_of items.now)) }
 {
     let mut rows = Vec::new(alloc);

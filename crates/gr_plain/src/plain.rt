@@ -127,8 +127,7 @@ impl<'a> Plain<'a> {
     fn enters(&mut self, alloc: Global, id: TaskId, scope: u64) -> Result<(), AllocError>
         ensures { OnOk result (IfSome (fin.get self.old.state.tasks id) (λ t. self.new ≡ with_state self.old (set_task self.old.state id (record (gone_on self.old.program self.old.steps t nothing) { opened = scope ∷ t.opened })))) }
     {
-        self.tasks
-            .enters(alloc, &self.table, self.steps, id, scope)
+        self.tasks.enters(alloc, &self.table, self.steps, id, scope)
     }
 
     fn leaves(&mut self, alloc: Global, id: TaskId) -> Result<(), AllocError>

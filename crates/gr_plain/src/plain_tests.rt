@@ -22,7 +22,10 @@ fn text(alloc: Global) -> Result<Program, AllocError>
         value: Expr::Lit {
             number: Number {
                 value: 7,
-                at: Place { line: 1, column: 21 },
+                at: Place {
+                    line: 1,
+                    column: 21,
+                },
             },
         },
     })?;
@@ -37,7 +40,10 @@ fn text(alloc: Global) -> Result<Program, AllocError>
     })?;
     Ok(Program {
         items: Items::from_vec(items),
-        end: Place { line: 1, column: 25 },
+        end: Place {
+            line: 1,
+            column: 25,
+        },
     })
 }
 
@@ -50,14 +56,13 @@ fn program(alloc: Global) -> Result<Accepted, AllocError> {
 /// Whether it is the print of 7 by `main`.
 fn is_print(entry: &Option<Entry>) -> bool {
     match entry {
-        Some(Entry::Call { task, op, reply }) =>
-            *task == MAIN
-                && *op == (Op::Print { word: 7 })
-                && *reply
-                    == (Reply {
-                        first: 0,
-                        second: 0,
-                    }),
+        Some(Entry::Call { task, op, reply }) => *task == MAIN
+            && *op == (Op::Print { word: 7 })
+            && *reply
+                == (Reply {
+                    first: 0,
+                    second: 0,
+                }),
         _ => false,
     }
 }

@@ -80,11 +80,7 @@ impl<'a> Running<'a> {
         }
     }
 
-    fn begin(
-        alloc: Global,
-        row: &TaskRow<'a>,
-        args: &[u64],
-    ) -> Result<Running<'a>, AllocError>
+    fn begin(alloc: Global, row: &TaskRow<'a>, args: &[u64]) -> Result<Running<'a>, AllocError>
         ensures { IfOk result (λ running. running ≡ started (Some (row_of row.now)) args.now) }
     {
         let locals = LocalWords::start(alloc, row.locals.as_slice(), args)?;
@@ -253,8 +249,9 @@ impl<'a> Running<'a> {
                 action: Action::Arrive,
             }),
             Top::Run { stmt } => match stmt {
-                Stmt::Set1 { targets, right, .. } =>
-                    self.turn_set(alloc, table, may_move, targets, right),
+                Stmt::Set1 { targets, right, .. } => self.turn_set(
+                    alloc, table, may_move, targets, right,
+                ),
                 Stmt::Do { call } => Ok(Turn::Acts {
                     action: call_action(alloc, table, self.locals(), call)?,
                 }),
