@@ -1,8 +1,7 @@
 -- Statements, blocks, items and programs: enough turns are enough.
-use Rattle.std.proofs.Common.{◌≡◌, ℕ, zero, suc, ◌<◌, Bool, true, false, List, [], ◌∷◌, length, Option, Some, None, Ok, refl, arith}
-use Rattle.gr_meets.specs.Parsers.{Parser, ◌>>=◌, ◌>>◌, pure, refuse, peek, halts}
-use Rattle.gr_meets.specs.Languages.{Meets, Agree, Exact, Takes}
-use Rattle.gr_meets.specs.Lists.{Separated}
+use Rattle.std.proofs.Common.{◌≡◌, ℕ, zero, suc, Bool, true, false, List, [], Option, Some, None, Ok, refl}
+use Rattle.gr_meets.specs.Parsers.{Parser, pure, refuse, halts}
+use Rattle.gr_meets.specs.Languages.{Meets, Agree, Exact}
 use Rattle.gr_meets.proofs.Completes.{reads_whole}
 use Rattle.gr_meets.proofs.Agrees.{agree_self, agree_bind, agree_skip, agree_expect, agree_either, agree_look, shortens, takes}
 use Rattle.gr_meets.proofs.Runs.{run_meets, run_agree, run_takes_all}

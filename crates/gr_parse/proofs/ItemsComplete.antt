@@ -1,5 +1,5 @@
 -- Items and programs: what is spelled is read.
-use Rattle.std.proofs.Common.{◌≡◌, ℕ, suc, ◌<◌, true, false, List, [], ◌∷◌, ◌++◌, length, Ok, refl, ap, subst, ◌∙◌, append_assoc, arith}
+use Rattle.std.proofs.Common.{◌≡◌, ℕ, ◌<◌, true, false, List, [], ◌∷◌, ◌++◌, length, Ok, refl, ap, subst, ◌∙◌, append_assoc, arith}
 use Rattle.gr_meets.specs.Parsers.{◌>>=◌, ◌>>◌, pure, next, peek, sees, halts, expect, separated, enclosed}
 use Rattle.gr_meets.specs.Languages.{Completes}
 use Rattle.gr_meets.specs.Lists.{Separated, Enclosed, Begins}
@@ -16,7 +16,7 @@ use Rattle.gr_text.specs.declared.token.Sign.TheVariants as signs
 use Rattle.gr_parse.specs.Tok.{Tok, is_sign, same_sign, same_key}
 use Rattle.gr_parse.specs.Parsing.{Toks, max_nesting, name, number, semicolon, array, named_item, heap_item, input, params, task, key_item, item, never, program, block}
 use Rattle.gr_parse.specs.Grammar.{IsName, IsNumber, IsBlock, IsItem, IsProgram}
-use Rattle.gr_parse.proofs.Tests.{sign_test}
+use Rattle.gr_parse.proofs.TokenTests.{sign_test}
 use Rattle.gr_parse.proofs.Complete.{Any}
 use Rattle.gr_parse.proofs.CallsComplete.{name_reads, number_reads, semicolon_reads, numbers_complete, params_list_completes}
 use Rattle.gr_parse.proofs.StmtsComplete.{block_completes, behind_few}

@@ -1,7 +1,7 @@
 -- Items and programs: what was read is spelled so, and what was refused goes on until there.
 use Rattle.std.proofs.Common.{◌≡◌, ℕ, List, [], ◌∷◌, ◌++◌, Option, Some, None, refl, sym, subst}
 use Rattle.std.proofs.lemmas.List.{append-nil}
-use Rattle.gr_meets.specs.Parsers.{Parser, ◌>>=◌, ◌>>◌, pure, peek}
+use Rattle.gr_meets.specs.Parsers.{peek}
 use Rattle.gr_meets.specs.Languages.{Read, Meets}
 use Rattle.gr_meets.specs.Lists.{Separated, Enclosed}
 use Rattle.gr_meets.proofs.Meets.{weaken, meets_pure, meets_refuse, look_meets, skip_then, expect_then, either_meets, bind, peek_means}
@@ -13,10 +13,10 @@ use Rattle.gr_lang.specs.declared.syntax.Item.{Item}
 use Rattle.gr_lang.specs.declared.syntax.Item.TheVariants as items
 use Rattle.gr_text.specs.declared.token.Keyword.TheVariants as keys
 use Rattle.gr_text.specs.declared.token.Sign.TheVariants as signs
-use Rattle.gr_parse.specs.Tok.{Tok, is_sign, heap_of}
-use Rattle.gr_parse.specs.Parsing.{Toks, max_nesting, array, named_item, heap_item, input, params, task, key_item, item_by, item, never, program, block}
-use Rattle.gr_parse.specs.Grammar.{IsName, IsNumber, IsObject, IsBlock, IsItem, IsProgram}
-use Rattle.gr_parse.proofs.Tests.{sign_test, key_test, heap_is}
+use Rattle.gr_parse.specs.Tok.{Tok, heap_of}
+use Rattle.gr_parse.specs.Parsing.{Toks, max_nesting, array, named_item, heap_item, input, params, task, key_item, item_by, item, never, program}
+use Rattle.gr_parse.specs.Grammar.{IsName, IsNumber, IsBlock, IsItem, IsProgram}
+use Rattle.gr_parse.proofs.TokenTests.{sign_test, key_test}
 use Rattle.gr_parse.proofs.Exprs.{nought}
 use Rattle.gr_parse.proofs.Calls.{nameless, name_then, number_then, semicolon_then, numbers_meets, params_list_meets}
 use Rattle.gr_parse.proofs.Stmts.{some_block, block_meets}

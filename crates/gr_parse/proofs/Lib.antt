@@ -1,6 +1,6 @@
 pub mod Words
 pub mod Steps
-pub mod Tests
+pub mod TokenTests
 pub mod Exprs
 pub mod Complete
 pub mod Calls

@@ -1,5 +1,5 @@
 -- What the parser reports of a text with its tokens: the program, or the error at the first fault.
-use Rattle.std.proofs.Common.{◌≡◌, ◌≢◌, ℕ, zero, suc, ◌+◌, ◌-◌, ◌<◌, ◌^◌, List, [], ◌∷◌, ◌++◌, length, take, drop, get_or, All, Result, Ok, Err, refl, sym, ap, subst, ◌∙◌, arith}
+use Rattle.std.proofs.Common.{◌≡◌, ℕ, zero, suc, ◌-◌, ◌<◌, ◌^◌, List, [], ◌∷◌, ◌++◌, length, take, drop, get_or, Result, Ok, Err, refl, sym, ap, subst, ◌∙◌, arith}
 use Rattle.std.proofs.lemmas.List.{length-append, length-drop}
 use Rattle.std.proofs.lemmas.Str.{IsUtf8-from_ascii}
 use Rattle.gr_meets.specs.Parsers.{Outcome}
@@ -16,9 +16,9 @@ use Rattle.gr_parse.specs.declared.fault.ParseError.TheVariants as errors
 use Rattle.gr_parse.specs.declared.fault.Stop.{Stop}
 use Rattle.gr_parse.specs.declared.fault.Stop.TheVariants as stops
 use Rattle.gr_parse.specs.Tok.{Tok, toks}
-use Rattle.gr_parse.specs.Sound.{IsSound, AreSound}
+use Rattle.gr_parse.specs.Sound.{AreSound}
 use Rattle.gr_parse.specs.Parsing.{Toks, Fails, Gives, program, plenty}
-use Rattle.gr_parse.specs.Grammar.{IsProgram, IsProgramOf, Says}
+use Rattle.gr_parse.specs.Grammar.{IsProgramOf, Says}
 use Rattle.gr_parse.specs.Reports.{error_of, error_at, IsWithin, Reports, Stands}
 use Rattle.gr_parse.proofs.Steps.{plenty_is}
 use Rattle.gr_parse.proofs.Agree.{exact}

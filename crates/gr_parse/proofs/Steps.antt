@@ -1,7 +1,6 @@
 -- One step of each part of the parser that goes by a number.
-use Rattle.std.proofs.Common.{◌≡◌, ℕ, zero, suc, ◌-◌, ◌^◌, ◌<◌, Bool, true, false, cond, Option, Some, None, List, [], ◌∷◌, ◌++◌, length, Ok, Err, refl, sym, ◌∙◌, ap, arith}
-use Rattle.std.proofs.lemmas.List.{length-drop}
-use Rattle.gr_meets.specs.Parsers.{Parser, Outcome, and_then, ◌>>=◌, ◌>>◌, pure, sees, peek, next, expect, halts, level, levels, chain, run, commas, separated}
+use Rattle.std.proofs.Common.{◌≡◌, ℕ, zero, suc, ◌-◌, ◌^◌, ◌<◌, Bool, true, false, cond, Option, Some, None, List, [], ◌∷◌, length, Ok, Err, refl, sym, ◌∙◌, ap, arith}
+use Rattle.gr_meets.specs.Parsers.{Parser, and_then, ◌>>=◌, ◌>>◌, pure, sees, peek, next, expect, halts, level, levels, chain, run, commas, separated}
 use Rattle.gr_lang.specs.declared.syntax.Name.{Name}
 use Rattle.gr_lang.specs.declared.syntax.Expr.{Expr}
 use Rattle.gr_lang.specs.declared.syntax.Stmt.{Stmt}

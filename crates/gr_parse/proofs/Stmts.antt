@@ -1,7 +1,7 @@
 -- Statements and blocks: what was read is spelled so, and what was refused goes on until there.
 use Rattle.std.proofs.Common.{◌≡◌, ℕ, zero, suc, Bool, true, false, List, [], ◌∷◌, ◌++◌, Option, Some, None, refl, sym, subst}
 use Rattle.std.proofs.lemmas.List.{append-nil}
-use Rattle.gr_meets.specs.Parsers.{Parser, ◌>>=◌, ◌>>◌, pure, peek}
+use Rattle.gr_meets.specs.Parsers.{Parser, ◌>>=◌, pure, peek}
 use Rattle.gr_meets.specs.Languages.{Read, Meets}
 use Rattle.gr_meets.specs.Lists.{Repeated}
 use Rattle.gr_meets.proofs.Meets.{weaken, meets_pure, meets_refuse, look_meets, skip_then, expect_then, either_meets, bind, peek_means}
@@ -10,7 +10,6 @@ use Rattle.gr_lang.specs.declared.syntax.Name.{Name}
 use Rattle.gr_lang.specs.declared.syntax.Expr.{Expr}
 use Rattle.gr_lang.specs.declared.syntax.Expr.TheVariants as tree
 use Rattle.gr_lang.specs.declared.syntax.CallText.{CallText}
-use Rattle.gr_lang.specs.declared.syntax.Right.{Right}
 use Rattle.gr_lang.specs.declared.syntax.Right.TheVariants as right
 use Rattle.gr_lang.specs.declared.syntax.HowText.{HowText}
 use Rattle.gr_lang.specs.declared.syntax.HowText.TheVariants as how
@@ -19,9 +18,9 @@ use Rattle.gr_lang.specs.declared.syntax.Stmt.TheVariants as st
 use Rattle.gr_text.specs.declared.token.Keyword.TheVariants as keys
 use Rattle.gr_text.specs.declared.token.Sign.TheVariants as signs
 use Rattle.gr_parse.specs.Tok.{Tok, is_sign, name_of, heap_of}
-use Rattle.gr_parse.specs.Parsing.{Toks, name, semicolon, expr, expr_from, args, operation, method, call, named_right, heap_right, right_by, right_side, one_target, two_targets, assignment, let_statement, done, named_statement, heap_statement, print, else_block, if_statement, while_statement, finish, started, spawned_at, spawn, forall_task, forall_statement, plain_statement, key_statement, heap_or, name_or, statement_with, braces, no_room, statement, block}
+use Rattle.gr_parse.specs.Parsing.{Toks, method, named_right, heap_right, right_by, right_side, one_target, two_targets, assignment, let_statement, named_statement, heap_statement, print, else_block, if_statement, while_statement, finish, started, spawned_at, spawn, forall_task, forall_statement, plain_statement, key_statement, heap_or, name_or, statement_with, braces, no_room, statement, block}
 use Rattle.gr_parse.specs.Grammar.{IsExpr, IsArgs, IsObject, IsOperation, IsCall, IsRight, IsAssignment, IsHow, IsStmt, IsBlock, IsStmts}
-use Rattle.gr_parse.proofs.Tests.{sign_test, key_test, missing_test, name_is, heap_is}
+use Rattle.gr_parse.proofs.TokenTests.{sign_test, key_test, missing_test, name_is, heap_is}
 use Rattle.gr_parse.proofs.Exprs.{nought, nought_is, expr_meets, expr_from_meets}
 use Rattle.gr_parse.proofs.Calls.{nameless, name_then, semicolon_then, some_args, some_call, args_meets, operation_meets, method_meets, call_meets}
 

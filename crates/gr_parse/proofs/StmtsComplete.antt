@@ -1,7 +1,7 @@
 -- Statements and blocks: what is spelled is read.
-use Rattle.std.proofs.Common.{◌≡◌, ℕ, zero, suc, ◌<◌, Bool, true, false, List, [], ◌∷◌, ◌++◌, length, Some, None, Ok, refl, sym, ap, subst, ◌∙◌, append_assoc, arith}
+use Rattle.std.proofs.Common.{◌≡◌, ℕ, zero, suc, ◌<◌, Bool, true, false, List, [], ◌∷◌, ◌++◌, length, Ok, refl, sym, ap, subst, ◌∙◌, append_assoc, arith}
 use Rattle.std.proofs.lemmas.List.{length-append}
-use Rattle.gr_meets.specs.Parsers.{Parser, ◌>>=◌, ◌>>◌, pure, next, peek, sees, halts, expect, either, run}
+use Rattle.gr_meets.specs.Parsers.{Parser, ◌>>=◌, ◌>>◌, pure, next, peek, sees, halts, expect, run}
 use Rattle.gr_meets.specs.Languages.{Completes}
 use Rattle.gr_meets.specs.Lists.{Begins}
 use Rattle.gr_meets.proofs.Meets.{sees_heads}
@@ -21,10 +21,10 @@ use Rattle.gr_lang.specs.declared.syntax.Stmt.TheVariants as st
 use Rattle.gr_text.specs.declared.token.Keyword.{Keyword}
 use Rattle.gr_text.specs.declared.token.Keyword.TheVariants as keys
 use Rattle.gr_text.specs.declared.token.Sign.TheVariants as signs
-use Rattle.gr_parse.specs.Tok.{Tok, is_sign, is_key, same_sign, same_key, name_of, heap_of, heap_name, operator}
-use Rattle.gr_parse.specs.Parsing.{Toks, name, semicolon, expr, expr_from, args, operation, method, call, named_right, heap_right, right_side, one_target, two_targets, assignment, let_statement, done, named_statement, heap_statement, print, else_block, if_statement, while_statement, finish, started, spawned_at, spawn, forall_task, forall_statement, plain_statement, key_statement, statement_with, braces, no_room, statement, block}
+use Rattle.gr_parse.specs.Tok.{Tok, is_sign, is_key, same_sign, same_key, heap_name, operator}
+use Rattle.gr_parse.specs.Parsing.{Toks, semicolon, expr, expr_from, args, operation, call, named_right, right_side, one_target, two_targets, assignment, let_statement, done, named_statement, heap_statement, print, else_block, if_statement, while_statement, finish, started, spawned_at, spawn, forall_task, forall_statement, plain_statement, key_statement, statement_with, braces, no_room, statement, block}
 use Rattle.gr_parse.specs.Grammar.{IsUnary, IsLevel, IsComparison, IsExpr, IsArgs, IsObject, IsOperation, IsCall, IsRight, IsAssignment, IsHow, IsStmt, IsBlock, IsStmts}
-use Rattle.gr_parse.proofs.Tests.{sign_test, key_test, missing_test}
+use Rattle.gr_parse.proofs.TokenTests.{sign_test, key_test, missing_test}
 use Rattle.gr_parse.proofs.Complete.{Any, NoOperator, expr_completes, expr_first}
 use Rattle.gr_parse.proofs.CallsComplete.{BeginsExpr, expr_begins, name_reads, semicolon_reads, args_complete, operation_completes, method_reads, call_completes, semicolon_none, left_brace_none, dot_dot_none, name_none, key_none, missing_none}
 use Rattle.gr_parse.proofs.Stmts.{to_repeated}

@@ -17,7 +17,7 @@ use Rattle.gr_parse.specs.Parsing.{Toks}
 use Rattle.gr_parse.specs.Grammar.{IsProgram, IsProgramOf, Reached, Says}
 use Rattle.gr_parse.specs.Reports.{error_of, error_at}
 use Rattle.gr_parse.proofs.Agree.{exact}
-use Rattle.gr_parse.proofs.Whole.{Cut, cut, Same, same_cut, in_middle, toks_length, toks_append, toks_more, toks_none}
+use Rattle.gr_parse.proofs.Whole.{Cut, cut, same_cut, in_middle, toks_length, toks_append, toks_more, toks_none}
 
 -- ---- programs
 

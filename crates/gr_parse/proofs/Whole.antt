@@ -1,5 +1,5 @@
 -- Whole texts: what the parser says of the tokens is what the text says.
-use Rattle.std.proofs.Common.{◌≡◌, ◌≢◌, ℕ, suc, ◌+◌, ◌<◌, List, [], ◌∷◌, ◌++◌, length, map, All, Ok, Err, refl, sym, ap, subst, ◌∙◌, arith}
+use Rattle.std.proofs.Common.{◌≡◌, ◌≢◌, ℕ, ◌<◌, List, [], ◌∷◌, ◌++◌, length, All, Ok, Err, refl, sym, ap, subst, ◌∙◌, arith}
 use Rattle.std.proofs.lemmas.List.{append-nil, length-append, length-map, map-append}
 use Rattle.std.proofs.lemmas.List.Elements.{All-head, All-tail}
 use Rattle.gr_meets.specs.Faults.{Continues, IsRefused, FirstFault}
@@ -9,8 +9,8 @@ use Rattle.gr_lang.specs.declared.syntax.Program.{Program}
 use Rattle.gr_text.specs.declared.token.Token.{Token}
 use Rattle.gr_text.specs.declared.token.TokenKind.TheVariants as kinds
 use Rattle.gr_parse.specs.declared.fault.ParseError.TheVariants as errors
-use Rattle.gr_parse.specs.Tok.{Tok, tok_of, toks}
-use Rattle.gr_parse.specs.Parsing.{Toks, program, plenty}
+use Rattle.gr_parse.specs.Tok.{tok_of, toks}
+use Rattle.gr_parse.specs.Parsing.{Toks, program}
 use Rattle.gr_parse.specs.Grammar.{IsProgram, IsProgramOf, Reached, Says}
 use Rattle.gr_parse.proofs.Agree.{exact}
 

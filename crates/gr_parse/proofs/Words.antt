@@ -1,5 +1,5 @@
 -- What the words of the language mean as tokens.
-use Rattle.std.proofs.Common.{◌≡◌, ℕ, Bool, true, false, cond, Option, None, Some, List, [], ◌∷◌, refl, sym, ◌∙◌, ap}
+use Rattle.std.proofs.Common.{◌≡◌, ℕ, false, None, List, [], ◌∷◌, refl}
 use Rattle.std.proofs.lemmas.List.Elements.{All-head}
 use Rattle.gr_meets.specs.Parsers.{sees}
 use Rattle.gr_lang.specs.declared.syntax.Place.{Place}
@@ -10,7 +10,7 @@ use Rattle.gr_text.specs.declared.token.Token.{Token}
 use Rattle.gr_text.specs.declared.token.TokenKind.{TokenKind}
 use Rattle.gr_text.specs.declared.token.TokenKind.TheVariants as kinds
 use Rattle.gr_parse.specs.Sound.{IsSound, AreSound}
-use Rattle.gr_parse.specs.Tok.{Tok, tok_of_word, tok_of_kind, tok_of, toks, is_sign, is_missing, name_of, number_of, atom_of, operator}
+use Rattle.gr_parse.specs.Tok.{tok_of_word, tok_of_kind, toks, is_sign, is_missing, name_of, number_of, atom_of, operator}
 
 pub word_no_sign : (want : Sign) (at : Place) (w : Keyword) → is_sign want (tok_of_word at w) ≡ false
 word_no_sign want at k.Heap = refl

@@ -1,4 +1,4 @@
-use Rattle.std.proofs.Common.{rules, arith, ◌≡◌, ℕ, ◌<◌, ◌-◌, Bool, [], ◌∷◌, ◌++◌, List, length, Ok, sym, ◌∙◌, ap, refl}
+use Rattle.std.proofs.Common.{rules, arith, ◌≡◌, ℕ, ◌-◌, Bool, [], ◌∷◌, ◌++◌, List, Ok, sym, ◌∙◌, ap}
 use Rattle.std.proofs.lemmas.Grind.{common_steps}
 use Rattle.gr_lang.specs.declared.syntax.Stmt.{Stmt}
 use Rattle.gr_text.specs.declared.token.Sign.TheVariants as signs

@@ -1,4 +1,4 @@
-use Rattle.std.proofs.Common.{rules, arith, ◌≡◌, ℕ, ◌<◌, ◌-◌, [], ◌∷◌, ◌++◌, List, length, Ok, sym, ◌∙◌, ap, refl}
+use Rattle.std.proofs.Common.{rules, arith, ◌≡◌, ◌-◌, [], ◌∷◌, ◌++◌, List, Ok, sym, ◌∙◌, ap, refl}
 use Rattle.std.proofs.lemmas.Grind.{common_steps}
 use Rattle.gr_lang.specs.declared.syntax.Item.{Item}
 use Rattle.gr_meets.specs.Parsers as read

@@ -1,4 +1,3 @@
-use Rattle.std.proofs.Common.{rules}
 use Rattle.gr_parse.proofs.Reported.{stands}
 use Rattle.gr_parse.proofs.program.token_before.Goals as goal
 

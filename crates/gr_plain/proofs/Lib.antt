@@ -1,0 +1,15 @@
+pub mod Lines
+pub mod Trees
+pub mod AtThing
+pub mod Blocks
+pub mod ThingSteps
+pub mod Hits
+pub mod Ranges
+pub mod Reaches
+pub mod Known
+pub mod Stacks
+pub mod Unders
+pub mod Begins
+pub mod Histories
+pub mod Zeros
+pub mod Looks

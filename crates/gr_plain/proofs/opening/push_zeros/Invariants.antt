@@ -1,0 +1,9 @@
+use Rattle.std.proofs.Common.{◌≡◌, ◌++◌}
+use Rattle.std.specs.Prelude.{replicate}
+use Rattle.gr_plain.proofs.opening.push_zeros.Given as goal
+
+abbrev pub invariant-loop-left : goal.invariant-loop-left
+invariant-loop-left l = l.words.items ++ replicate l.left 0 ≡ l.fn.words.items ++ replicate l.count 0
+
+abbrev pub decreases-loop-left : goal.decreases-loop-left
+decreases-loop-left l = l.left

@@ -1,0 +1,7 @@
+use Rattle.std.proofs.Common.{◌≡◌, ◌++◌, drop}
+use Rattle.gr_lang.specs.Openings.{objects_from}
+use Rattle.gr_plain.specs.ThingView.{things_of}
+use Rattle.gr_plain.proofs.opening.things_in.Given as goal
+
+abbrev pub invariant-loop-item : goal.invariant-loop-item
+invariant-loop-item l = things_of l.things.items ++ objects_from l.from (drop l.item-index l.items) ≡ objects_from 0 l.items

@@ -1,0 +1,16 @@
+pub mod LineView
+pub mod ThingView
+pub mod ThingCalls
+pub mod BlockView
+pub mod MemoryView
+pub mod LocalView
+pub mod Ranges
+pub mod TableView
+pub mod RunningView
+pub mod Turns
+pub mod StackView
+pub mod ScopeView
+pub mod TaskView
+pub mod Held
+pub mod PlainView
+pub mod Laws

@@ -1,0 +1,16 @@
+-- What a stack of words stands for.
+use Rattle.std.specs.Prelude.{ℕ, List, [], ◌∷◌, fold, Option, Some, None}
+
+abbrev pub above : List ℕ → ℕ → List ℕ
+above below word = word ∷ below
+
+abbrev pub newest_first : List ℕ → List ℕ
+newest_first = fold above []
+
+abbrev pub top_of : List ℕ → Option ℕ
+top_of [] = None
+top_of (w ∷ ws) = Some w
+
+abbrev pub under_top : List ℕ → List ℕ
+under_top [] = []
+under_top (w ∷ ws) = ws

@@ -1,0 +1,23 @@
+//! The meaning of a program on one plain memory, as a machine that takes the entries of a history.
+#![tactic(auto)]
+
+pub mod actions;
+pub mod dues;
+pub mod expressions;
+pub mod laws;
+pub mod locals;
+pub mod memory;
+pub mod objects_blocks;
+pub mod objects_parts;
+#[cfg(test)]
+mod objects_tests;
+pub mod objects_things;
+pub mod opening;
+pub mod plain;
+#[cfg(test)]
+mod plain_tests;
+pub mod running;
+pub mod scopes;
+pub mod table;
+pub mod tasks;
+pub mod word_stack;

@@ -1,0 +1,335 @@
+//! The tasks of a run by their ids.
+ghost use Rattle.std.specs.Prelude.{◌≡◌, ◌∷◌, ◌&&◌, IfOk, IfSome, OnOk, length, not};
+ghost use Rattle.std.specs.BTreeMap.{values, IsOrdered};
+ghost use Rattle.std.specs.FinMap as fin;
+ghost use Rattle.std.specs.List.{list_any};
+ghost use Rattle.std.specs.Option.{option_copied};
+ghost use Rattle.gr_lang.specs.States.{at_loop, child, has_ended, id_cmp, innermost, is_at_loop as at_loop_mode, is_going as going_mode, is_under};
+ghost use Rattle.gr_lang.specs.Steps.{goes_on as gone_on};
+ghost use Rattle.gr_lang.specs.Objects.{nothing};
+ghost use Rattle.gr_plain.specs.StackView.{top_of, under_top};
+ghost use Rattle.gr_plain.specs.TaskView.{mode_of};
+
+use crate::running::Running;
+use crate::scopes::{ScopeRow, is_under};
+use crate::table::Table;
+use crate::word_stack::WordStack;
+use gr_lang::action::{Action, Reply, TaskId};
+use std::alloc::{AllocError, Global};
+use std::collections::BTreeMap;
+use std::marker::Model;
+
+/// A task goes on, waits at its loop, has ended or is trapped.
+#[derive(Clone, Copy)]
+pub enum Mode {
+    Going,
+    AtLoop,
+    Ended,
+    Trapped,
+}
+
+/// A task: the scope in which it stands, its next action and what it still has to do there, and the
+/// scopes that it has opened and not passed.
+#[derive(Drop)]
+pub struct Row<'a> {
+    scope: u64,
+    action: Action,
+    running: Running<'a>,
+    opened: WordStack,
+    mode: Mode,
+}
+
+impl<'a> Model for Row<'a> {
+    ghost use Rattle.gr_lang.specs.States.{Task};
+    ghost use Rattle.std.specs.Coded.{codes};
+    ghost use Rattle.gr_lang.specs.contracts.syntax.Stmt as stmt;
+
+    ghost Value = { Task };
+
+    ghost coded = { Prim.hlevel (codes, stmt.the_row.coded) };
+
+    ghost use Rattle.gr_plain.specs.TaskView.{task_of};
+
+    ghost view = { task_of };
+}
+
+impl<'a> Row<'a> {
+    /// A new task in a scope, at its first action.
+    pub fn start(
+        alloc: Global,
+        table: &Table<'a>,
+        steps: u64,
+        scope: u64,
+        target: u64,
+        args: &[u64],
+    ) -> Result<Row<'a>, AllocError>
+        ensures { IfOk result (λ row. row ≡ child table.now steps scope target args.now) }
+    {
+        let mut running = Running::start(alloc, table, target, args)?;
+        let action = running.next(alloc, table, steps)?;
+        Ok(Row {
+            scope,
+            action,
+            running,
+            opened: WordStack::new(alloc),
+            mode: Mode::Going,
+        })
+    }
+
+    /// The scope under which its new work stands.
+    pub fn innermost(&self) -> u64
+        ensures { result ≡ innermost self.now }
+    {
+        match self.opened.top() {
+            Some(scope) => scope,
+            None => self.scope,
+        }
+    }
+
+    /// The innermost scope that it has opened and not passed.
+    pub fn opened(&self) -> Option<u64>
+        ensures { result ≡ top_of self.now.opened }
+    {
+        self.opened.top()
+    }
+
+    /// Its next action.
+    pub fn action(&self) -> &Action
+        ensures { result.now ≡ self.now.action }
+    {
+        &self.action
+    }
+
+    /// Whether it goes on.
+    pub fn is_going(&self) -> bool
+        ensures { result ≡ going_mode self.now.mode }
+    {
+        match self.mode {
+            Mode::Going => true,
+            _ => false,
+        }
+    }
+
+    /// Whether it waits at its loop.
+    pub fn is_at_loop(&self) -> bool
+        ensures { result ≡ at_loop_mode self.now.mode }
+    {
+        match self.mode {
+            Mode::AtLoop => true,
+            _ => false,
+        }
+    }
+
+    fn set_mode(&mut self, mode: Mode)
+        ensures { self.new ≡ record self.old { mode = mode_of mode } }
+    {
+        self.mode = mode;
+    }
+
+    fn enter(&mut self, scope: u64) -> Result<(), AllocError>
+        ensures { OnOk result (self.new ≡ record self.old { opened = scope ∷ self.old.opened }) }
+    {
+        self.opened.push(scope)
+    }
+
+    fn leave(&mut self)
+        ensures { self.new ≡ record self.old { opened = under_top self.old.opened } }
+    {
+        self.opened.drop_top();
+    }
+
+    fn is_left(&self, scopes: &[ScopeRow], s: u64) -> bool
+        ensures { result ≡ (not (has_ended self.now.mode) && is_under (length scopes.now) scopes.now s self.now.scope) }
+    {
+        match self.mode {
+            Mode::Ended => false,
+            _ => is_under(scopes.len(), scopes, s, self.scope),
+        }
+    }
+
+    /// Goes on to the next action.
+    fn go_on(
+        &mut self,
+        alloc: Global,
+        table: &Table,
+        steps: u64,
+        reply: Reply,
+    ) -> Result<(), AllocError>
+        ensures { OnOk result (self.new ≡ gone_on table.now steps self.old reply) }
+    {
+        self.running.go_on(reply)?;
+        self.action = self.running.next(alloc, table, steps)?;
+        self.mode = Mode::Going;
+        Ok(())
+    }
+}
+
+fn any_row_left(rows: &BTreeMap<TaskId, Row>, scopes: &[ScopeRow], s: u64) -> bool
+    ensures value { result ≡ list_any (λ t. not (has_ended t.mode) && is_under (length scopes.now) scopes.now s t.scope) (values rows.now) }
+    ensures ordered { IsOrdered id_cmp rows.now }
+{
+    let _ = rows.len();
+    rows.values().any(|row| row.is_left(scopes, s))
+}
+
+/// The tasks by id.
+#[derive(Drop)]
+pub struct Tasks<'a> {
+    rows: BTreeMap<TaskId, Row<'a>>,
+}
+
+impl<'a> Model for Tasks<'a> {
+    ghost use Rattle.std.specs.FinMap as fin;
+    ghost use Rattle.gr_lang.specs.States.{Task, id_cmp};
+    ghost use Rattle.std.specs.Coded.{codes};
+    ghost use Rattle.gr_lang.specs.contracts.syntax.Stmt as stmt;
+
+    ghost Value = { fin.FinMap id_cmp Task };
+
+    ghost coded = { fin.code (Prim.hlevel codes) (Prim.hlevel (codes, stmt.the_row.coded)) };
+
+    ghost view = { λ t. fin.from_entries t.rows.entries };
+}
+
+impl<'a> Tasks<'a> {
+    /// No tasks.
+    pub fn new(alloc: Global) -> Tasks<'a>
+        ensures { result ≡ fin.empty }
+    {
+        Tasks {
+            rows: BTreeMap::new(alloc),
+        }
+    }
+
+    /// The task of this id.
+    pub fn get(&self, id: TaskId) -> Option<&Row<'a>>
+        ensures { option_copied result ≡ fin.get self.now id }
+    {
+        self.rows.get(&id)
+    }
+
+    fn take(&mut self, id: TaskId) -> Option<Row<'a>>
+        ensures value { result ≡ fin.get self.old id }
+        ensures rest { self.new ≡ fin.remove self.old id }
+    {
+        self.rows.remove(&id)
+    }
+
+    /// The task of this id is this one.
+    pub fn put(&mut self, id: TaskId, row: Row<'a>) -> Result<(), AllocError>
+        ensures { OnOk result (self.new ≡ fin.insert self.old id row.entry) }
+    {
+        let _ = self.rows.insert(id, row)?;
+        Ok(())
+    }
+
+    /// A task that is there goes on to its next action.
+    #[tactic(auto, using(gr_lang::proofs::TaskIds::put_back))]
+    pub fn goes_on(
+        &mut self,
+        alloc: Global,
+        table: &Table,
+        steps: u64,
+        id: TaskId,
+        reply: Reply,
+    ) -> Result<(), AllocError>
+        ensures { OnOk result (IfSome (fin.get self.old id) (λ t. self.new ≡ fin.insert self.old id (gone_on table.now steps t reply))) }
+    {
+        match self.take(id) {
+            None => Ok(()),
+            Some(mut row) => {
+                row.go_on(alloc, table, steps, reply)?;
+                self.put(id, row)
+            }
+        }
+    }
+
+    /// A task that is there enters a scope, and goes on.
+    #[tactic(auto, using(gr_lang::proofs::TaskIds::put_back))]
+    pub fn enters(
+        &mut self,
+        alloc: Global,
+        table: &Table,
+        steps: u64,
+        id: TaskId,
+        scope: u64,
+    ) -> Result<(), AllocError>
+        ensures { OnOk result (IfSome (fin.get self.old id) (λ t. self.new ≡ fin.insert self.old id (record (gone_on table.now steps t nothing) { opened = scope ∷ t.opened }))) }
+    {
+        match self.take(id) {
+            None => Ok(()),
+            Some(mut row) => {
+                row.go_on(alloc, table, steps, no_reply())?;
+                row.enter(scope)?;
+                self.put(id, row)
+            }
+        }
+    }
+
+    /// A task that is there enters the scope of its loop, and waits there.
+    #[tactic(auto, using(gr_lang::proofs::TaskIds::put_back))]
+    pub fn waits(&mut self, id: TaskId, scope: u64) -> Result<(), AllocError>
+        ensures { OnOk result (IfSome (fin.get self.old id) (λ t. self.new ≡ fin.insert self.old id (record t { mode = at_loop; opened = scope ∷ t.opened }))) }
+    {
+        match self.take(id) {
+            None => Ok(()),
+            Some(mut row) => {
+                row.enter(scope)?;
+                row.set_mode(Mode::AtLoop);
+                self.put(id, row)
+            }
+        }
+    }
+
+    /// A task that is there leaves its innermost scope, and goes on.
+    #[tactic(auto, using(gr_lang::proofs::TaskIds::put_back))]
+    pub fn leaves(
+        &mut self,
+        alloc: Global,
+        table: &Table,
+        steps: u64,
+        id: TaskId,
+    ) -> Result<(), AllocError>
+        ensures { OnOk result (IfSome (fin.get self.old id) (λ t. self.new ≡ fin.insert self.old id (record (gone_on table.now steps t nothing) { opened = under_top t.opened }))) }
+    {
+        match self.take(id) {
+            None => Ok(()),
+            Some(mut row) => {
+                row.go_on(alloc, table, steps, no_reply())?;
+                row.leave();
+                self.put(id, row)
+            }
+        }
+    }
+
+    /// A task that is there changes its mode.
+    #[tactic(auto, using(gr_lang::proofs::TaskIds::put_back))]
+    pub fn set_mode(&mut self, id: TaskId, mode: Mode) -> Result<(), AllocError>
+        ensures { OnOk result (IfSome (fin.get self.old id) (λ t. self.new ≡ fin.insert self.old id (record t { mode = mode_of mode }))) }
+    {
+        match self.take(id) {
+            None => Ok(()),
+            Some(mut row) => {
+                row.set_mode(mode);
+                self.put(id, row)
+            }
+        }
+    }
+
+    /// Whether a task that hasn't ended stands in scope `s` or under it.
+    pub fn any_left(&self, scopes: &[ScopeRow], s: u64) -> bool
+        ensures { result ≡ list_any (λ t. not (has_ended t.mode) && is_under (length scopes.now) scopes.now s t.scope) (fin.values self.now) }
+    {
+        any_row_left(&self.rows, scopes, s)
+    }
+}
+
+/// The reply that gives no words.
+pub fn no_reply() -> Reply
+    ensures { result ≡ nothing }
+{
+    Reply {
+        first: 0,
+        second: 0,
+    }
+}
