@@ -22,7 +22,7 @@ use Rattle.gr_lang.specs.States.{State, Task, Mode, going, at_loop, ended, trapp
 use Rattle.gr_lang.specs.Steps.{step, called, goes_on, standing, set_task, when}
 use Rattle.gr_lang.proofs.TaskIds.{by_ids, get_put, put_twice}
 use Rattle.gr_top.specs.Alone.{are_straight, Does, DoesIn, IsAlone, task_left, work_left}
-use Rattle.gr_top.proofs.Straight.{StandsStraight, GoesStraight, next_straight, go_on_straight}
+use Rattle.gr_top.proofs.Tasks.{StandsStraight, GoesStraight, next_straight, go_on_straight}
 
 -- main is the task that is found.
 pub found_main : (S : State) (t : Task) → IsAlone S t → fin.get S.tasks main_id ≡ Some t

@@ -11,7 +11,7 @@ use Rattle.gr_lang.specs.Faults.{fault}
 use Rattle.gr_lang.specs.Histories.{legal, complete}
 use Rattle.gr_top.specs.Built.{is_built}
 use Rattle.gr_top.specs.Commands.{command_of}
-use Rattle.gr_top.specs.Due.{Reading, accepted, refused, Due, due_usage, due_too_long, due_read, due_refused, due_accepted, due_run, due_after, due_trapped, not_built, cores, steps, status_of, Came}
+use Rattle.gr_top.specs.Due.{Reading, accepted, refused, Due, due_usage, due_too_long, due_read, due_refused, due_accepted, due_run, due_of_run, due_trapped, not_built, cores, steps, status_of, Came}
 use Rattle.gr_top.specs.Readings.{ReadsAs, IsDue, Answered, IsRunOf, IsWorldOf, IsDelivered, Refusing}
 use Rattle.gr_top.specs.Texts.{usage_text, too_long_text, prints, first_trap}
 use Rattle.gr_top.specs.Views.{made}
@@ -89,14 +89,17 @@ IsReadStatus d = (status_of d.refusal ≡ 0) ⊎ ((status_of d.refusal ≡ 1) �
 abbrev IsRunStatus : Due → Type 0
 IsRunStatus d = (status_of d.refusal ≡ 0) ⊎ (status_of d.refusal ≡ 3)
 
-after_status : (history : List Entry) (b : Bool) (t : Option TrapAt) → IsRunStatus (if b then record { refusal = r.Nothing; text = prints history; ran = true } else due_trapped history t)
-after_status history true t = inl refl
-after_status history false None = inl refl
-after_status history false (Some t) = inr refl
+trap_status : (history : List Entry) (t : Option TrapAt) → IsRunStatus (due_trapped history t)
+trap_status history None = inl refl
+trap_status history (Some t) = inr refl
+
+after_status : (history : List Entry) (b : Bool) → IsRunStatus (due_of_run b history)
+after_status history true = inl refl
+after_status history false = trap_status history (first_trap history)
 
 run_status : (p : Program) (world : Option WorldEnd) → IsRunStatus (due_run p world)
 run_status p None = inl refl
-run_status p (Some world) = after_status world.history (complete p cores steps world.history) (first_trap world.history)
+run_status p (Some world) = after_status world.history (complete p cores steps world.history)
 
 widened : (d : Due) → IsRunStatus d → IsReadStatus d
 widened d (inl h) = inl h
@@ -216,14 +219,17 @@ pub record Ended (bytes : List ℕ) (world : Option WorldEnd) (d : Due) : Type 0
   pub complete : complete program cores steps end.history ≡ true
   pub text : d.text ≡ prints end.history
 
-history_ended : (bytes : List ℕ) (p : Program) (w : WorldEnd) (b : Bool) (t : Option TrapAt) → ReadsAs bytes (accepted p) → legal p cores steps w.history ≡ true
-    → (complete p cores steps w.history ≡ true) ⊎ (is_some (first_trap w.history) ≡ true) → complete p cores steps w.history ≡ b → first_trap w.history ≡ t
-    → (d : Due) → d ≡ (if b then record { refusal = r.Nothing; text = prints w.history; ran = true } else due_trapped w.history t) → status_of d.refusal ≡ 0 → Ended bytes (Some w) d
-history_ended bytes p w true t reads legal ends x y d e zero_status =
+trap_ended : (bytes : List ℕ) (w : WorldEnd) (t : Option TrapAt) → is_some t ≡ true → (d : Due) → d ≡ due_trapped w.history t → status_of d.refusal ≡ 0 → Ended bytes (Some w) d
+trap_ended bytes w None h d e s = cc
+trap_ended bytes w (Some t) h d e s = absurd (omega (arith, s, ap (λ (z : Due). status_of z.refusal) e))
+
+history_ended : (bytes : List ℕ) (p : Program) (w : WorldEnd) (b : Bool) → ReadsAs bytes (accepted p) → legal p cores steps w.history ≡ true
+    → (complete p cores steps w.history ≡ true) ⊎ (is_some (first_trap w.history) ≡ true) → complete p cores steps w.history ≡ b
+    → (d : Due) → d ≡ due_of_run b w.history → status_of d.refusal ≡ 0 → Ended bytes (Some w) d
+history_ended bytes p w true reads legal ends x d e zero_status =
     record { program = p; reads = reads; end = w; kept = refl; legal = legal; complete = x; text = ap (λ (z : Due). z.text) e }
-history_ended bytes p w false None reads legal (inl c) x y d e s = let k : true ≡ false = sym c ∙ x in cc
-history_ended bytes p w false None reads legal (inr c) x y d e s = let k : false ≡ true = sym (ap is_some y) ∙ c in cc
-history_ended bytes p w false (Some t) reads legal ends x y d e s = absurd (omega (arith, s, ap (λ (z : Due). status_of z.refusal) e))
+history_ended bytes p w false reads legal (inl c) x d e s = let k : true ≡ false = sym c ∙ x in cc
+history_ended bytes p w false reads legal (inr c) x d e s = trap_ended bytes w (first_trap w.history) c d e s
 
 run_ended : (bytes : List ℕ) (p : Program) (world : Option WorldEnd) (d : Due) → ReadsAs bytes (accepted p) → IsWorldOf bytes world → is_some world ≡ d.ran
     → d ≡ due_run p world → status_of d.refusal ≡ 0 → Ended bytes world d
@@ -231,7 +237,7 @@ run_ended bytes p None d reads h ran e s = let k : false ≡ true = ran ∙ ap (
 run_ended bytes p (Some w) d reads h ran e s =
     let same : h.0 ≡ p = let q : accepted h.0 ≡ accepted p = once bytes (accepted h.0) (accepted p) h.1 reads in cc in
     let run : IsRunOf p w = subst (λ (x : Program). IsRunOf x w) same h.2 in
-    history_ended bytes p w (complete p cores steps w.history) (first_trap w.history) reads run.legal run.ends refl refl d e s
+    history_ended bytes p w (complete p cores steps w.history) reads run.legal run.ends refl d e s
 
 built_ended : (bytes : List ℕ) (p : Program) (world : Option WorldEnd) (d : Due) (b : Bool) → ReadsAs bytes (accepted p) → IsWorldOf bytes world → is_some world ≡ d.ran
     → d ≡ (if b then due_run p world else due_refused not_built) → status_of d.refusal ≡ 0 → Ended bytes world d

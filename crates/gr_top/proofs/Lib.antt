@@ -1,5 +1,5 @@
 pub mod Firsts
-pub mod Straight
+pub mod Tasks
 pub mod Alone
 pub mod TextOnce
 pub mod Once

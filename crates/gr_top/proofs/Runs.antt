@@ -24,25 +24,15 @@ use Rattle.gr_lang.specs.Histories.{after, final, legal, complete}
 use Rattle.gr_top.specs.Alone.{straight_at, are_straight, Does, DoesIn, IsAlone, task_left, work_left}
 use Rattle.gr_top.specs.Built.{is_built, built_head, built_item, built_statement, built_at, is_plain}
 use Rattle.gr_top.specs.Due.{cores, steps}
-use Rattle.gr_top.specs.Runs.{Comes, Held, stepped, with_state, entry_due, entry_of}
+use Rattle.gr_plain.specs.Held.{Held, stepped, with_state, entry_due, entry_of}
+use Rattle.gr_plain.proofs.Histories.{after_append}
+use Rattle.gr_top.specs.Runs.{Comes}
 use Rattle.gr_top.specs.Texts.{first_trap, first_of, trap_of}
 use Rattle.gr_top.specs.declared.texts.TrapAt.{TrapAt}
 use Rattle.gr_top.proofs.Alone.{Advances, found_main, call_advances, end_advances, trap_advances, over_steps}
-use Rattle.gr_top.proofs.Straight.{StandsStraight, next_straight}
+use Rattle.gr_top.proofs.Tasks.{StandsStraight, next_straight}
 
 -- ---- histories
-
-some_of : (o : Option State) → option_and_then (λ T. Some T) o ≡ o
-some_of None = refl
-some_of (Some T) = refl
-
-after_append : (p : Program) (N L : ℕ) (S : State) (xs : List Entry) (x : Entry) → after p N L S (xs ++ x ∷ []) ≡ option_and_then (λ T. step p N L T x) (after p N L S xs)
-after_append p N L S [] x = some_of (step p N L S x)
-after_append p N L S (y ∷ ys) x =
-    elim (step p N L S y) as (λ o. option_and_then (λ T. after p N L T (ys ++ x ∷ [])) o ≡ option_and_then (λ T. step p N L T x) (option_and_then (λ T. after p N L T ys) o)) [
-      | None ↦ refl
-      | Some T ↦ after_append p N L T ys x
-    ]
 
 -- One entry more.
 after_more : (p : Program) (N L : ℕ) (S T U : State) (h : List Entry) (x : Entry) → after p N L S h ≡ Some T → step p N L T x ≡ Some U → after p N L S (h ++ x ∷ []) ≡ Some U

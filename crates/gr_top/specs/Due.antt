@@ -63,10 +63,13 @@ abbrev pub due_trapped : List Entry → Option TrapAt → Due
 due_trapped history None = record { refusal = Nothing; text = prints history; ran = true }
 due_trapped history (Some t) = record { refusal = Trap t.kind t.task; text = prints history ++ trap_text t; ran = true }
 
--- Of a run with this history: its prints where it is complete, and else its prints and its first trap.
+-- Of a run with this history, which is complete or not: its prints where it is complete, and else its prints and its first trap.
+abbrev pub due_of_run : Bool → List Entry → Due
+due_of_run true history = record { refusal = Nothing; text = prints history; ran = true }
+due_of_run false history = due_trapped history (first_trap history)
+
 abbrev pub due_after : Program → List Entry → Due
-due_after p history =
-    if complete p cores steps history then record { refusal = Nothing; text = prints history; ran = true } else due_trapped history (first_trap history)
+due_after p history = due_of_run (complete p cores steps history) history
 
 abbrev pub due_run : Program → Option WorldEnd → Due
 due_run p None = record { refusal = Nothing; text = []; ran = true }

@@ -8,9 +8,10 @@ mod command;
 mod delivery;
 mod engine;
 mod laws;
-
+mod reading;
+mod straight;
 mod texts;
 
+pub use answer::{Refusal, RunEnd, WorldEnd};
 pub use call::top;
 pub use laws::answers_are_exact;
-pub use answer::{Refusal, RunEnd, WorldEnd};
