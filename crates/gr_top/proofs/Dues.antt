@@ -285,7 +285,7 @@ module _ (words : List (String Global)) (a : Answer) (before now : Option (List 
 
   pub headline_of : (bytes : List ℕ) → IsDue words bytes a.world (made a) → IsWorldOf bytes a.world → status_of refusal ≡ 0 → command_of words ≡ Some Run
       → (p : Program) × (w : WorldEnd) × ReadsAs bytes (accepted p) × (world ≡ Some w) × (legal p cores steps w.history ≡ true) × (complete p cores steps w.history ≡ true)
-        × Appends before now (prints w.history)
+      × Appends before now (prints w.history)
   headline_of bytes h runs s some =
       let x = mine 0 s (λ k. omega (arith, k)) in
       let e = headline words bytes world (made a) (here bytes h) some (subst (IsWorldOf bytes) (sym kept) runs) x.2 (ap status_of (sym x.0) ∙ s) in

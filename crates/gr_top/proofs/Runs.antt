@@ -140,7 +140,14 @@ none_moves S t h e =
 
 pub run_begins : (p : Program) (held : Held) → is_built p ≡ true → held ≡ record { program = p; cores = cores; steps = steps; state = opening_state p steps } → Comes p held []
 run_begins p held h e = subst (λ (x : Held). Comes p x []) (sym e) (record {
-  program = refl; on_cores = refl; in_steps = refl; leads = refl; task = child p steps 0 (target_of p (codes "main")) []; alone = opening_alone p steps h; trap = λ k. cc })
+  program = refl;
+  on_cores = refl;
+  in_steps = refl;
+  leads = refl;
+  task = child p steps 0 (target_of p (codes "main")) [];
+  alone = opening_alone p steps h;
+  trap = λ k. cc;
+})
 
 same_state : (S T : State) → Some S ≡ Some T → S ≡ T
 same_state S T e = cc
@@ -158,14 +165,21 @@ run_goes p held new history entry h due e =
     let moves : Moves p held.cores held.steps held.state entry = entry_moves p held.cores held.steps held.state h.task entry h.alone due in
     let at : step p held.cores held.steps held.state entry ≡ Some moves.advances.after = moves.advances.step in
     let same : with_state held moves.advances.after ≡ new =
-      let k : option_map (with_state held) (step held.program held.cores held.steps held.state entry) ≡ Some (with_state held moves.advances.after) =
-        subst (λ (q : Program). option_map (with_state held) (step q held.cores held.steps held.state entry) ≡ Some (with_state held moves.advances.after)) (sym h.program) (ap (option_map (with_state held)) at) in
-      let q : Some (with_state held moves.advances.after) ≡ Some new = sym k ∙ e in cc in
+    let k : option_map (with_state held) (step held.program held.cores held.steps held.state entry) ≡ Some (with_state held moves.advances.after) =
+    subst (λ (q : Program). option_map (with_state held) (step q held.cores held.steps held.state entry) ≡ Some (with_state held moves.advances.after)) (sym h.program) (ap (option_map (with_state held)) at) in
+    let q : Some (with_state held moves.advances.after) ≡ Some new = sym k ∙ e in cc in
     let leads : final p cores steps (history ++ entry ∷ []) ≡ Some moves.advances.after =
-      after_more p cores steps (opening_state p steps) held.state moves.advances.after history entry h.leads
-        (subst (λ (n : ℕ). step p n steps held.state entry ≡ Some moves.advances.after) h.on_cores (subst (λ (n : ℕ). step p held.cores n held.state entry ≡ Some moves.advances.after) h.in_steps at)) in
+    after_more p cores steps (opening_state p steps) held.state moves.advances.after history entry h.leads
+    (subst (λ (n : ℕ). step p n steps held.state entry ≡ Some moves.advances.after) h.on_cores (subst (λ (n : ℕ). step p held.cores n held.state entry ≡ Some moves.advances.after) h.in_steps at)) in
     let comes : Comes p (with_state held moves.advances.after) (history ++ entry ∷ []) = record {
-      program = h.program; on_cores = h.on_cores; in_steps = h.in_steps; leads = leads; task = moves.task; alone = moves.advances.alone; trap = λ k. trap_last history entry (moves.trap k) } in
+      program = h.program;
+      on_cores = h.on_cores;
+      in_steps = h.in_steps;
+      leads = leads;
+      task = moves.task;
+      alone = moves.advances.alone;
+      trap = λ k. trap_last history entry (moves.trap k);
+    } in
     subst (λ (x : Held). Goes p held x history entry) same (record { comes = comes; less = rw (found_main moves.advances.after moves.task moves.advances.alone) moves.advances.less })
 
 -- The entry that is due is never refused.
@@ -173,7 +187,7 @@ pub never_refused : (p : Program) (held : Held) (history : List Entry) (entry : 
 never_refused p held history entry h due e =
     let moves : Moves p held.cores held.steps held.state entry = entry_moves p held.cores held.steps held.state h.task entry h.alone due in
     let k : option_map (with_state held) (step held.program held.cores held.steps held.state entry) ≡ Some (with_state held moves.advances.after) =
-      subst (λ (q : Program). option_map (with_state held) (step q held.cores held.steps held.state entry) ≡ Some (with_state held moves.advances.after)) (sym h.program) (ap (option_map (with_state held)) moves.advances.step) in
+    subst (λ (q : Program). option_map (with_state held) (step q held.cores held.steps held.state entry) ≡ Some (with_state held moves.advances.after)) (sym h.program) (ap (option_map (with_state held)) moves.advances.step) in
     let q : Some (with_state held moves.advances.after) ≡ None = sym k ∙ e in cc
 
 -- ---- the end of the run

@@ -45,7 +45,11 @@ fn declared_as(item: &Item, name: &Text) -> Option<Declared>
     ensures { result ≡ spec.declared_as item.now name.now }
 {
     match item {
-        Item::Array { name: own, words } => if_named(own, name, Declared::Array { words: words.value }),
+        Item::Array { name: own, words } => if_named(
+            own,
+            name,
+            Declared::Array { words: words.value },
+        ),
         Item::Set { name: own } => if_named(own, name, Declared::Set),
         Item::Map { name: own } => if_named(own, name, Declared::Map),
         Item::Vector { name: own } => if_named(own, name, Declared::Vector),
@@ -58,7 +62,17 @@ fn declared_as(item: &Item, name: &Text) -> Option<Declared>
         }
         Item::Show { .. } => None,
         Item::Input { .. } => None,
-        Item::Task { name: own, params, .. } => if_named(own, name, Declared::Task { params: params.len() }),
+        Item::Task {
+            name: own,
+            params,
+            ..
+        } => if_named(
+            own,
+            name,
+            Declared::Task {
+                params: params.len(),
+            },
+        ),
     }
 }
 

@@ -11,5 +11,4 @@ pub fn answers_are_exact()
     ensures reading { (text : List ℕ) (r q : Reading) → ReadsAs text r → ReadsAs text q → r ≡ q }
     ensures due { (words : List (String Global)) (bytes : List ℕ) (world : Option WorldEnd) (d e : Due)
         → IsDue words bytes world d → IsDue words bytes world e → d ≡ e }
-{
-}
+{}

@@ -10,6 +10,8 @@ mod engine;
 mod laws;
 mod reading;
 mod straight;
+#[cfg(test)]
+mod tests;
 mod texts;
 
 pub use answer::{Refusal, RunEnd, WorldEnd};

@@ -1,14 +1,17 @@
 //! From a text to an accepted program, or to its first fault.
-ghost use Rattle.std.specs.Prelude.{◌≡◌, ◌≤◌, ◌^◌, length, IfOk, Ok};
-ghost use Rattle.gr_text.specs.Text.{Reads, AreTokens, IsFaultOf};
+ghost use Rattle.std.specs.Prelude.{◌≡◌, ◌≤◌, ◌^◌, length, true, IfOk, Ok};
+ghost use Rattle.gr_lang.specs.Targets.{targets_fit};
+ghost use Rattle.gr_parse.specs.Grammar.{IsProgramOf, Says};
+ghost use Rattle.gr_text.specs.Text.{Reads, IsFaultOf};
 ghost use Rattle.gr_top.specs.Views.{reading_of};
 ghost use Rattle.gr_top.specs.Readings.{ReadsAs};
 
 use gr_checker::check::{CheckError, check};
 use gr_lang::accepted::Accepted;
 use gr_lang::refusal::{Fault, Kind};
-use gr_lang::syntax::Place;
+use gr_lang::syntax::{Place, Program};
 use gr_parse::{ParseError, parse};
+use gr_text::token::Tokens;
 use gr_text::{TextError, place, tokens};
 use std::alloc::{AllocError, Global};
 
@@ -42,6 +45,62 @@ fn token_fault(text: &[u8], error: TextError) -> Result<TextRead, AllocError>
     }
 }
 
+/// The fault that was found by the grammar.
+fn grammar_fault(text: &[u8], tokens: &Tokens, error: ParseError) -> Result<TextRead, AllocError>
+    requires reads { Reads text.now (Ok tokens.now) }
+    requires says { Says error text.now tokens.now }
+    ensures { IfOk result (λ read. ReadsAs text.now (reading_of read)) }
+{
+    let _ = text;
+    let _ = tokens;
+    match error {
+        ParseError::Unexpected { line, column } => {
+            Ok(refused(Kind::Unexpected, Place { line, column }))
+        }
+        ParseError::UnexpectedEnd { line, column } => {
+            Ok(refused(Kind::UnexpectedEnd, Place { line, column }))
+        }
+        ParseError::OutOfMemory => Err(AllocError),
+    }
+}
+
+/// The fault that was found by the checker.
+fn checker_fault(error: CheckError) -> Result<Fault, AllocError>
+    ensures { IfOk result (λ f. error ≡ CheckError.Refused f.kind f.at.line f.at.column) }
+{
+    match error {
+        CheckError::Refused { kind, line, column } => Ok(Fault {
+            kind,
+            at: Place { line, column },
+        }),
+        CheckError::OutOfMemory => Err(AllocError),
+    }
+}
+
+/// The program that the text spells, where it is accepted, and else its first fault.
+fn checked(
+    alloc: Global,
+    text: &[u8],
+    tokens: &Tokens,
+    program: Program,
+) -> Result<TextRead, AllocError>
+    requires reads { Reads text.now (Ok tokens.now) }
+    requires spelled { IsProgramOf text.now tokens.now program }
+    requires shaped { targets_fit program ≡ true }
+    ensures { IfOk result (λ read. ReadsAs text.now (reading_of read)) }
+{
+    let _ = text;
+    let _ = tokens;
+    let checked = check(alloc, program);
+    match checked {
+        Ok(program) => Ok(TextRead::Accepted { program }),
+        Err(error) => {
+            let fault = checker_fault(error)?;
+            Ok(TextRead::Refused { fault })
+        }
+    }
+}
+
 /// What the text reads as: tokens, then grammar, then checker.
 pub(crate) fn read_text(alloc: Global, text: &[u8]) -> Result<TextRead, AllocError>
     requires { length text.now ≤ 2 ^ 20 }
@@ -53,22 +112,8 @@ pub(crate) fn read_text(alloc: Global, text: &[u8]) -> Result<TextRead, AllocErr
         Err(error) => return token_fault(text, error),
     };
     let parsed = parse(alloc, text, &tokens);
-    let program = match parsed {
-        Ok(program) => program,
-        Err(ParseError::Unexpected { line, column }) => {
-            return Ok(refused(Kind::Unexpected, Place { line, column }));
-        }
-        Err(ParseError::UnexpectedEnd { line, column }) => {
-            return Ok(refused(Kind::UnexpectedEnd, Place { line, column }));
-        }
-        Err(ParseError::OutOfMemory) => return Err(AllocError),
-    };
-    let checked = check(alloc, program);
-    match checked {
-        Ok(program) => Ok(TextRead::Accepted { program }),
-        Err(CheckError::Refused { kind, line, column }) => {
-            Ok(refused(kind, Place { line, column }))
-        }
-        Err(CheckError::OutOfMemory) => Err(AllocError),
+    match parsed {
+        Ok(program) => checked(alloc, text, &tokens, program),
+        Err(error) => grammar_fault(text, &tokens, error),
     }
 }

@@ -7,7 +7,8 @@ use gr_lang::refusal::Fault;
 use std::alloc::{AllocError, Global};
 use std::fmt::Write;
 
-pub(crate) const USAGE: &str = "usage: grappa run|check|replay|bench [--cores N] [--block N] [--limit N] [--steps N] [--slice N] [--events N] [--history] [--counts] [--kind WORD] [--size N] [--seed N]\n";
+pub(crate) const USAGE: &str =
+    "usage: grappa run|check|replay|bench [--cores N] [--block N] [--limit N] [--steps N] [--slice N] [--events N] [--history] [--counts] [--kind WORD] [--size N] [--seed N]\n";
 
 /// The line that says where a text is refused, and why.
 pub(crate) fn refused_text(alloc: Global, fault: Fault) -> Result<String, AllocError>
@@ -15,7 +16,11 @@ pub(crate) fn refused_text(alloc: Global, fault: Fault) -> Result<String, AllocE
 {
     let mut text = String::new(alloc);
     let words = fault.kind.words();
-    writeln!(text, "refused line {} column {}: {}", fault.at.line, fault.at.column, words)?;
+    writeln!(
+        text,
+        "refused line {} column {}: {}",
+        fault.at.line, fault.at.column, words
+    )?;
     Ok(text)
 }
 
@@ -23,7 +28,10 @@ fn printed_by(entry: &Entry) -> Option<u64>
     ensures { result ≡ spec.printed_by entry.now }
 {
     match entry {
-        Entry::Call { op: Op::Print { word }, .. } => Some(*word),
+        Entry::Call {
+            op: Op::Print { word },
+            ..
+        } => Some(*word),
         _ => None,
     }
 }
@@ -103,6 +111,10 @@ pub(crate) fn write_trap(text: &mut String, trap: TrapAt) -> Result<(), AllocErr
     ensures { OnOk result (string_bytes text.new ≡ string_bytes text.old ++ spec.trap_text trap) }
 {
     let word = trap_word(trap.kind);
-    writeln!(text, "trap {} task {}.{}", word, trap.task.core, trap.task.number)?;
+    writeln!(
+        text,
+        "trap {} task {}.{}",
+        word, trap.task.core, trap.task.number
+    )?;
     Ok(())
 }

@@ -25,17 +25,17 @@ pub entries-preserved : goal.entries-preserved
 entries-preserved c =
     let due : entry_due c.entries.plain.state main_id ≡ Some c.in-Some.entry = sym c.in_ok-next.ensures ∙ c.in-Some.is in
     subst (λ (h : List Entry). Comes c.args.program.now c.step-stepped.new.self h) (sym c.in_ok-push.ensures.ok)
-      (run_goes c.args.program.now c.entries.plain c.step-stepped.new.self c.entries.history c.in-Some.entry c.entries.invariant due c.in-Ok.ensures.ok).comes
+    (run_goes c.args.program.now c.entries.plain c.step-stepped.new.self c.entries.history c.in-Some.entry c.entries.invariant due c.in-Ok.ensures.ok).comes
 
 pub returns-in-Ok-over-clause-legal : goal.returns-in-Ok-over-clause-legal
 returns-in-Ok-over-clause-legal c =
     subst (λ (h : List Entry). legal c.args.program.now cores steps h ≡ true) (sym c.in_ok-push-in-Ok-over.ensures.ok)
-      (run_over c.args.program.now c.entries.plain c.step-over.new.self c.entries.history c.entries.invariant c.in-Ok-over.ensures.ok).legal
+    (run_over c.args.program.now c.entries.plain c.step-over.new.self c.entries.history c.entries.invariant c.in-Ok-over.ensures.ok).legal
 
 pub returns-in-Ok-over-clause-complete : goal.returns-in-Ok-over-clause-complete
 returns-in-Ok-over-clause-complete c =
     subst (λ (h : List Entry). complete c.args.program.now cores steps h ≡ true) (sym c.in_ok-push-in-Ok-over.ensures.ok)
-      (run_over c.args.program.now c.entries.plain c.step-over.new.self c.entries.history c.entries.invariant c.in-Ok-over.ensures.ok).complete
+    (run_over c.args.program.now c.entries.plain c.step-over.new.self c.entries.history c.entries.invariant c.in-Ok-over.ensures.ok).complete
 
 pub returns-in-Err-NotLegal-over-clause-ends : goal.returns-in-Err-NotLegal-over-clause-ends
 returns-in-Err-NotLegal-over-clause-ends c =

@@ -1,0 +1,17 @@
+use Rattle.std.proofs.Common.{◌≡◌, sym, subst}
+use Rattle.gr_parse.specs.declared.fault.ParseError.{ParseError}
+use Rattle.gr_parse.specs.Grammar.{Says}
+use Rattle.gr_top.specs.Readings.{ReadsAs}
+use Rattle.gr_top.specs.Views.{reading_of}
+use Rattle.gr_top.specs.declared.reading.TextRead.{TextRead}
+use Rattle.gr_top.proofs.reading.grammar_fault.Goals as goal
+
+pub returns-in-Unexpected : goal.returns-in-Unexpected
+returns-in-Unexpected c =
+    subst (λ (x : TextRead). ReadsAs c.args.text.now (reading_of x)) (sym c.refused.ensures)
+    (ReadsAs.unexpected c.requires.reads (subst (λ (e : ParseError). Says e c.args.text.now c.args.tokens.now) c.in-Unexpected.is c.requires.says))
+
+pub returns-in-UnexpectedEnd : goal.returns-in-UnexpectedEnd
+returns-in-UnexpectedEnd c =
+    subst (λ (x : TextRead). ReadsAs c.args.text.now (reading_of x)) (sym c.refused-in-UnexpectedEnd.ensures)
+    (ReadsAs.unexpected_end c.requires.reads (subst (λ (e : ParseError). Says e c.args.text.now c.args.tokens.now) c.in-UnexpectedEnd.is c.requires.says))
