@@ -1,12 +1,11 @@
 -- What a straight main alone does next, and what is left after it.
-use Rattle.std.proofs.Common.{◌≡◌, ℕ, zero, suc, ◌+◌, ◌-◌, ◌<◌, ◌≤◌, List, [], ◌∷◌, Bool, true, false, ◌&&◌, not, Option, Some, None, refl, sym, ap, ◌∙◌, arith, rules, length, subst}
-use Rattle.std.specs.Prelude.{if◌then◌else◌, ◌==◌}
-use Rattle.std.specs.Option.{option_map, option_map_or, option_and_then}
+use Rattle.std.proofs.Common.{◌≡◌, ℕ, ◌+◌, ◌<◌, List, true, false, Some, refl, ap, ◌∙◌, arith, rules, length, subst}
+use Rattle.std.specs.Prelude.{◌==◌}
+use Rattle.std.specs.Option.{option_map_or}
 use Rattle.std.specs.Str.{bytes_eq}
 use Rattle.std.proofs.lemmas.Slice.Eq.{bytes_eq-Decides}
 use Rattle.std.specs.FinMap as fin
 use Rattle.gr_lang.specs.declared.syntax.Program.{Program}
-use Rattle.gr_lang.specs.declared.action.Action.{Action}
 use Rattle.gr_lang.specs.declared.action.Action.TheVariants as a
 use Rattle.gr_lang.specs.declared.action.Entry.{Entry}
 use Rattle.gr_lang.specs.declared.action.Entry.TheVariants as e
@@ -14,14 +13,13 @@ use Rattle.gr_lang.specs.declared.action.Op.{Op}
 use Rattle.gr_lang.specs.declared.action.Reply.{Reply}
 use Rattle.gr_lang.specs.declared.action.TrapKind.{TrapKind}
 use Rattle.gr_lang.specs.declared.action.TrapKind.TheVariants as trap
-use Rattle.gr_lang.specs.declared.action.TaskId.{TaskId}
-use Rattle.gr_lang.specs.Fields.{fields_of, same_op, same_reply, same_trap}
-use Rattle.gr_lang.specs.Objects.{Objects, call}
-use Rattle.gr_lang.specs.Next.{Todo, Running, Stands, next, go_on}
-use Rattle.gr_lang.specs.States.{State, Task, Mode, going, at_loop, ended, trapped, main_id, root, left}
-use Rattle.gr_lang.specs.Steps.{step, called, goes_on, standing, set_task, when}
-use Rattle.gr_lang.proofs.TaskIds.{by_ids, get_put, put_twice}
-use Rattle.gr_top.specs.Alone.{are_straight, Does, DoesIn, IsAlone, task_left, work_left}
+use Rattle.gr_lang.specs.Fields.{fields_of, same_reply, same_trap}
+use Rattle.gr_lang.specs.Objects.{call}
+use Rattle.gr_lang.specs.Next.{next, go_on}
+use Rattle.gr_lang.specs.States.{State, Task, going, ended, trapped, main_id, left}
+use Rattle.gr_lang.specs.Steps.{step, called, goes_on, set_task}
+use Rattle.gr_lang.proofs.TaskIds.{by_ids, put_twice}
+use Rattle.gr_top.specs.Alone.{Does, DoesIn, IsAlone, task_left, work_left}
 use Rattle.gr_top.proofs.Tasks.{StandsStraight, GoesStraight, next_straight, go_on_straight}
 
 -- main is the task that is found.

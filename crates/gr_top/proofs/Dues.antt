@@ -1,8 +1,8 @@
 -- The answer due, from what the parts of the call made; and what it tells.
-use Rattle.std.proofs.Common.{◌≡◌, ◌≢◌, ℕ, ◌+◌, ◌<◌, ◌≤◌, ◌^◌, List, Bool, true, false, Option, Some, None, refl, sym, ap, ◌∙◌, subst, arith, length, is_some, ◌⊎◌, inl, inr}
+use Rattle.std.proofs.Common.{◌≡◌, ◌≢◌, ℕ, ◌<◌, ◌≤◌, ◌^◌, List, Bool, true, false, Option, Some, None, refl, sym, ap, ◌∙◌, subst, arith, length, is_some, ◌⊎◌, inl, inr}
 use Rattle.std.specs.Prelude.{IfSome, String, string_bytes, if◌then◌else◌}
 use Rattle.std.specs.declared.alloc.Global.{Global}
-use Rattle.std.specs.Io.KnownBytes.{Keeps, Appends}
+use Rattle.std.specs.Io.KnownBytes.{Appends}
 use Rattle.gr_lang.specs.declared.syntax.Program.{Program}
 use Rattle.gr_lang.specs.declared.refusal.Kind.{Kind}
 use Rattle.gr_lang.specs.declared.refusal.Fault.{Fault}
@@ -12,7 +12,7 @@ use Rattle.gr_lang.specs.Histories.{legal, complete}
 use Rattle.gr_top.specs.Built.{is_built}
 use Rattle.gr_top.specs.Commands.{command_of}
 use Rattle.gr_top.specs.Due.{Reading, accepted, refused, Due, due_usage, due_too_long, due_read, due_refused, due_accepted, due_run, due_of_run, due_trapped, not_built, cores, steps, status_of, Came}
-use Rattle.gr_top.specs.Readings.{ReadsAs, IsDue, Answered, IsRunOf, IsWorldOf, IsDelivered, Refusing}
+use Rattle.gr_top.specs.Readings.{ReadsAs, IsDue, Answered, IsRunOf, IsWorldOf, Refusing}
 use Rattle.gr_top.specs.Texts.{usage_text, too_long_text, prints, first_trap}
 use Rattle.gr_top.specs.Views.{made}
 use Rattle.gr_top.specs.declared.answer.Answer.{Answer}

@@ -1,9 +1,8 @@
 -- A straight run, entry by entry.
-use Rattle.std.proofs.Common.{◌≡◌, ℕ, zero, suc, ◌+◌, ◌<◌, List, [], ◌∷◌, ◌++◌, Bool, true, false, ◌&&◌, not, Option, Some, None, refl, sym, ap, ◌∙◌, arith, rules, length, subst, is_some, ◌⊎◌, inl, inr}
+use Rattle.std.proofs.Common.{◌≡◌, ℕ, zero, suc, ◌<◌, List, [], ◌∷◌, ◌++◌, Bool, true, false, ◌&&◌, Option, Some, None, refl, sym, ap, ◌∙◌, rules, subst, is_some, ◌⊎◌, inl, inr}
 use Rattle.std.specs.Prelude.{if◌then◌else◌, codes, slice_get}
 use Rattle.std.specs.Option.{option_and_then, option_map_or, option_map}
 use Rattle.std.specs.List.{list_all}
-use Rattle.std.specs.FinMap as fin
 use Rattle.gr_lang.specs.declared.syntax.Program.{Program}
 use Rattle.gr_lang.specs.declared.syntax.Item.{Item}
 use Rattle.gr_lang.specs.declared.syntax.Item.TheVariants as i
@@ -13,16 +12,14 @@ use Rattle.gr_lang.specs.declared.action.Action.{Action}
 use Rattle.gr_lang.specs.declared.action.Action.TheVariants as a
 use Rattle.gr_lang.specs.declared.action.Entry.{Entry}
 use Rattle.gr_lang.specs.declared.action.Entry.TheVariants as e
-use Rattle.gr_lang.specs.declared.action.Op.{Op}
-use Rattle.gr_lang.specs.declared.action.TrapKind.{TrapKind}
-use Rattle.gr_lang.specs.Objects.{Objects, call}
-use Rattle.gr_lang.specs.Openings.{TaskText, tasks_of, target_of, texts, opening}
-use Rattle.gr_lang.specs.Next.{Todo, Running, run, arrive, runs, start, start_at, next, given, lets_of}
-use Rattle.gr_lang.specs.States.{State, Task, Mode, going, at_loop, ended, trapped, main_id, root, opening_state, child, is_going}
+use Rattle.gr_lang.specs.Objects.{call}
+use Rattle.gr_lang.specs.Openings.{TaskText, tasks_of, target_of}
+use Rattle.gr_lang.specs.Next.{runs, start, start_at, next}
+use Rattle.gr_lang.specs.States.{State, Task, Mode, going, at_loop, ended, trapped, main_id, opening_state, child, is_going}
 use Rattle.gr_lang.specs.Steps.{step, goes_on, when, over_step}
 use Rattle.gr_lang.specs.Histories.{after, final, legal, complete}
-use Rattle.gr_top.specs.Alone.{straight_at, are_straight, Does, DoesIn, IsAlone, task_left, work_left}
-use Rattle.gr_top.specs.Built.{is_built, built_head, built_item, built_statement, built_at, is_plain}
+use Rattle.gr_top.specs.Alone.{straight_at, are_straight, DoesIn, IsAlone, work_left}
+use Rattle.gr_top.specs.Built.{is_built, built_head, built_item, built_statement, built_at}
 use Rattle.gr_top.specs.Due.{cores, steps}
 use Rattle.gr_plain.specs.Held.{Held, stepped, with_state, entry_due, entry_of}
 use Rattle.gr_plain.proofs.Histories.{after_append}

@@ -1,12 +1,12 @@
 -- A text reads as its tokens, or as its first fault, in one way.
-use Rattle.std.proofs.Common.{◌≡◌, ℕ, ◌+◌, ◌<◌, ◌≤◌, List, [], ◌∷◌, length, take, drop, Ok, Err, refl, sym, ap, ◌∙◌, arith}
+use Rattle.std.proofs.Common.{◌≡◌, ℕ, ◌+◌, ◌<◌, ◌≤◌, [], ◌∷◌, length, drop, Ok, Err, refl, sym, ap, ◌∙◌, arith}
 use Rattle.gr_text.specs.declared.front.Front.TheVariants as fronts
 use Rattle.std.proofs.lemmas.List.{length-drop}
 use Rattle.gr_text.specs.declared.fault.TextError.TheVariants as faults
 use Rattle.gr_text.specs.declared.token.Token.{Token}
 use Rattle.gr_text.specs.declared.token.TokenKind.{TokenKind}
 use Rattle.gr_text.specs.declared.token.TokenKind.TheVariants as kinds
-use Rattle.gr_text.specs.Text.{Text, Outcome, ReadsFrom, Reads, IsLongest, Fits, with_front, token_at, blank_len, most_name}
+use Rattle.gr_text.specs.Text.{Text, Outcome, ReadsFrom, Reads, IsLongest, with_front, token_at, blank_len}
 use Rattle.gr_text.proofs.Found.{blank_fits}
 use Rattle.gr_text.proofs.Longest.{some_token}
 use Rattle.gr_text.proofs.Steps.{Then, backward}

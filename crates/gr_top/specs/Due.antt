@@ -1,8 +1,7 @@
 -- The answer due: the refusal and the text for a command, what the text reads as, and the history of its run; and what comes of it.
-use Rattle.std.specs.Prelude.{◌≡◌, ℕ, ◌<◌, Bool, true, false, if◌then◌else◌, List, [], ◌∷◌, ◌++◌, length, take, Option, None, Some, is_some}
+use Rattle.std.specs.Prelude.{◌≡◌, ℕ, ◌<◌, Bool, true, false, if◌then◌else◌, List, [], ◌++◌, length, take, Option, None, Some, is_some}
 use Rattle.std.specs.Io.KnownBytes.{Appends}
 use Rattle.gr_lang.specs.declared.syntax.Program.{Program}
-use Rattle.gr_lang.specs.declared.syntax.Place.{Place}
 use Rattle.gr_lang.specs.declared.refusal.Fault.{Fault}
 use Rattle.gr_lang.specs.declared.refusal.Kind.TheVariants as k
 use Rattle.gr_lang.specs.declared.action.Entry.{Entry}

@@ -1,14 +1,12 @@
 -- What a text reads as: its tokens spell one program that is accepted, or there is a first fault, of the tokens before one of the grammar before one of the checker.
-use Rattle.std.specs.Prelude.{◌≡◌, ◌≢◌, ◌<◌, ◌≤◌, ◌^◌, ℕ, true, false, List, length, Result, Ok, Err, Option, None, Some, is_some, ◌⊎◌, String}
+use Rattle.std.specs.Prelude.{◌≡◌, ◌≢◌, ◌<◌, ◌≤◌, ◌^◌, ℕ, true, false, List, length, Ok, Err, Option, None, Some, is_some, ◌⊎◌, String}
 use Rattle.std.specs.declared.alloc.Global.{Global}
 use Rattle.gr_lang.specs.declared.syntax.Program.{Program}
-use Rattle.gr_lang.specs.declared.refusal.Kind.{Kind}
 use Rattle.gr_lang.specs.declared.refusal.Kind.TheVariants as k
 use Rattle.gr_lang.specs.declared.refusal.Fault.{Fault}
 use Rattle.gr_lang.specs.Faults.{fault, IsFirst}
 use Rattle.gr_lang.specs.Accepted.{faults, IsAccepted}
 use Rattle.gr_text.specs.declared.token.Token.{Token}
-use Rattle.gr_text.specs.declared.fault.TextError.{TextError}
 use Rattle.gr_text.specs.declared.fault.TextError.TheVariants as text_errors
 use Rattle.gr_text.specs.Text.{Reads}
 use Rattle.gr_text.specs.Places.{place_of}

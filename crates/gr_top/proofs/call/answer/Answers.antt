@@ -1,4 +1,4 @@
-use Rattle.std.proofs.Common.{◌≡◌, ◌∙◌, ℕ, ◌≤◌, ◌<◌, length, List, [], Some, None, Err, ◌^◌, sym, ap, subst, refl, arith, rules}
+use Rattle.std.proofs.Common.{◌≡◌, ◌∙◌, ℕ, ◌≤◌, ◌<◌, length, List, [], Some, None, ◌^◌, sym, ap, subst, arith, rules}
 use Rattle.std.proofs.KnownBytes.{Consumes-nil}
 use Rattle.gr_top.specs.Commands.{command_of}
 use Rattle.gr_top.specs.Readings.{IsDue, IsWorldOf}

@@ -1,4 +1,4 @@
-use Rattle.std.proofs.Common.{◌≡◌, ◌≢◌, ◌∙◌, ℕ, ◌≤◌, ◌<◌, ◌^◌, ◌⊎◌, inl, inr, length, List, Some, None, sym, ap, subst, refl, arith}
+use Rattle.std.proofs.Common.{◌≡◌, ◌∙◌, ℕ, ◌⊎◌, inl, List, sym, subst}
 use Rattle.gr_top.specs.Readings.{IsDue, IsWorldOf}
 use Rattle.gr_top.specs.Views.{made}
 use Rattle.gr_top.specs.declared.answer.Refusal.TheVariants as r

@@ -1,4 +1,4 @@
-use Rattle.std.proofs.Common.{◌≡◌, sym, subst}
+use Rattle.std.proofs.Common.{sym, subst}
 use Rattle.gr_parse.specs.declared.fault.ParseError.{ParseError}
 use Rattle.gr_parse.specs.Grammar.{Says}
 use Rattle.gr_top.specs.Readings.{ReadsAs}

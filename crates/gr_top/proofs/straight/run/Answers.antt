@@ -1,4 +1,4 @@
-use Rattle.std.proofs.Common.{◌≡◌, ◌∙◌, ◌++◌, List, [], ◌∷◌, Some, None, true, sym, ap, subst, inr, rules}
+use Rattle.std.proofs.Common.{◌≡◌, ◌∙◌, List, Some, None, true, sym, subst, inr, rules}
 use Rattle.gr_lang.specs.declared.action.Entry.{Entry}
 use Rattle.gr_lang.specs.States.{main_id}
 use Rattle.gr_lang.specs.Histories.{legal, complete}
