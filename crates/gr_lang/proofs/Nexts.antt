@@ -4,7 +4,7 @@ use Rattle.gr_lang.specs.declared.syntax.Program.{Program}
 use Rattle.gr_lang.specs.declared.action.Action.{Action}
 use Rattle.gr_lang.specs.declared.action.Action.TheVariants as a
 use Rattle.gr_lang.specs.declared.action.TrapKind.TheVariants as trap
-use Rattle.gr_lang.specs.Next.{Running, Look, look, next, pure, acts, at_limit, after_look}
+use Rattle.gr_lang.specs.Next.{Running, look, next, pure, acts}
 
 pub next-moved : (p : Program) (left : ℕ) (t u : Running) → 0 < left → look p t ≡ pure (Some u) → next p left t ≡ next p (left - 1) u
 unfolding next

@@ -1,7 +1,12 @@
 -- The worked rows hold, by computation.
-use Rattle.std.proofs.Common.{◌≡◌, refl, rules, arith}
-use Rattle.std.specs.FinMap.{gets}
+use Rattle.std.proofs.Common.{◌≡◌, refl, sym, ◌∙◌, rules, arith}
+use Rattle.std.specs.Prelude.{ℕ, List, [], ◌∷◌, length}
+use Rattle.std.specs.FinMap.{gets, entries, empty, insert, entries-insert, len-entries, len-empty}
+use Rattle.std.specs.Cmp.{nat_cmp_total}
+use Rattle.std.specs.Ordering.{nat_cmp}
+use Rattle.std.specs.FinSet as set
 use Rattle.std.specs.FinSet.{members}
+use Rattle.std.specs.Prelude.{false}
 use Rattle.gr_lang.specs.declared.syntax.Stmt.{the_lemmas}
 use Rattle.gr_lang.specs.declared.syntax.Expr.{the_lemmas as expr_lemmas}
 use Rattle.gr_lang.specs.Objects.{least_start}
@@ -60,9 +65,25 @@ map_calls = record { put = search (rules, gets); merge = search (rules, gets); g
 pub vector_calls : rows.VectorCalls
 vector_calls = record { push = search rules; pop = search rules; dequeue = search rules }
 
+nothing_in : {A : Type 0} (xs : List A) → length xs ≡ 0 → xs ≡ []
+nothing_in [] none = refl
+nothing_in (x ∷ xs) none = absurd (omega arith)
+
+no_block : entries (empty {X = ℕ} {R = nat_cmp}) ≡ []
+no_block = nothing_in _ (sym (len-entries _) ∙ len-empty nat_cmp ℕ)
+
+one_block : entries (insert (empty {X = ℕ} {R = nat_cmp}) 2 2) ≡ (2, 2) ∷ []
+one_block = search (rules, entries-insert, nat_cmp_total, no_block)
+
 pub heap_calls : rows.HeapCalls
 unfolding least_start
-heap_calls = record { alloc = search rules; alloc_none = search rules; alloc_zero = search rules; free = search rules; free_none = search rules }
+heap_calls = record {
+  alloc = search (rules, one_block);
+  alloc_none = search (rules, one_block);
+  alloc_zero = search rules;
+  free = search (rules, gets);
+  free_none = search (rules, gets);
+}
 
 pub finish_complete : rows.FinishIsComplete
 unfolding next look start go_on opening left
@@ -72,10 +93,19 @@ pub pass_not_legal : rows.PassIsNotLegal
 unfolding next look start go_on opening left
 pass_not_legal = search (rules, the_lemmas, expr_lemmas, by_ids)
 
+three_is_new : set.contains (set.empty {R = nat_cmp}) 3 ≡ false
+three_is_new = search (rules, members)
+
+none_has_begun : set.len (set.empty {R = nat_cmp}) ≡ 0
+none_has_begun = search (rules, members)
+
+one_has_begun : set.len (set.insert (set.empty {R = nat_cmp}) 3) ≡ 1
+one_has_begun = search (rules, members)
+
 pub loop_complete : rows.LoopIsComplete
 unfolding next look start go_on opening left
-loop_complete = search (rules, the_lemmas, expr_lemmas, by_ids)
+loop_complete = search (rules, the_lemmas, expr_lemmas, by_ids, three_is_new, none_has_begun, one_has_begun)
 
 pub loop_not_passed : rows.LoopIsNotPassed
 unfolding next look start go_on opening left
-loop_not_passed = search (rules, the_lemmas, expr_lemmas, by_ids)
+loop_not_passed = search (rules, the_lemmas, expr_lemmas, by_ids, three_is_new, none_has_begun, one_has_begun)

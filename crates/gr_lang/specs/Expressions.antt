@@ -6,8 +6,6 @@ use Rattle.gr_lang.specs.declared.syntax.Expr.{Expr, fold-Expr}
 use Rattle.gr_lang.specs.declared.syntax.Expr.TheOpen.{Expr-F}
 use Rattle.gr_lang.specs.declared.syntax.BinOp.{BinOp}
 use Rattle.gr_lang.specs.declared.syntax.BinOp.TheVariants as op
-use Rattle.gr_lang.specs.declared.syntax.Number.{Number}
-use Rattle.gr_lang.specs.declared.syntax.Name.{Name}
 
 abbrev pub number_of : Bool → ℕ
 number_of b = if b then 1 else 0

@@ -1,5 +1,5 @@
 -- A fault is a condition at a place; this file says which of two faults comes first, and what the first of many is.
-use Rattle.std.specs.Prelude.{◌≡◌, ℕ, ◌==◌, Bool, true, false, nat_lt, if◌then◌else◌, List, [], ◌∷◌, Contains, All, codes}
+use Rattle.std.specs.Prelude.{◌≡◌, ℕ, ◌==◌, Bool, false, nat_lt, if◌then◌else◌, List, [], ◌∷◌, Contains, All, codes}
 use Rattle.gr_lang.specs.declared.syntax.Place.{Place}
 use Rattle.gr_lang.specs.declared.refusal.Kind.{Kind}
 use Rattle.gr_lang.specs.declared.refusal.Kind.TheVariants as k

@@ -1,5 +1,5 @@
 -- Which histories are legal, and which are complete.
-use Rattle.std.specs.Prelude.{ℕ, Bool, false, List, [], ◌∷◌, Option, Some, None, is_some}
+use Rattle.std.specs.Prelude.{ℕ, Bool, false, List, [], ◌∷◌, Option, Some, is_some}
 use Rattle.std.specs.Option.{option_and_then, option_map_or}
 use Rattle.gr_lang.specs.declared.syntax.Program.{Program}
 use Rattle.gr_lang.specs.declared.action.Entry.{Entry}

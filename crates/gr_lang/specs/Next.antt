@@ -1,6 +1,6 @@
 -- A task's next action: it makes pure steps, an assignment of an expression or a test, until an action or a trap stands next.
-use Rattle.std.specs.Prelude.{ℕ, zero, suc, ◌+◌, ◌==◌, Bool, true, false, not, if◌then◌else◌, List, [], ◌∷◌, ◌++◌, length, map, slice_get, slice_index, Option, Some, None, unwrap_or, is_some}
-use Rattle.std.specs.Option.{option_map, option_and_then, option_map_or}
+use Rattle.std.specs.Prelude.{ℕ, zero, suc, ◌==◌, Bool, true, if◌then◌else◌, List, [], ◌∷◌, ◌++◌, map, slice_get, slice_index, Option, Some, None, unwrap_or, is_some}
+use Rattle.std.specs.Option.{option_map, option_map_or}
 use Rattle.gr_lang.specs.declared.syntax.Stmt.{Stmt, out-Stmt, fold-Stmt}
 use Rattle.gr_lang.specs.declared.syntax.Stmt.TheOpen.{Stmt-F}
 use Rattle.gr_lang.specs.declared.syntax.Expr.{Expr}
@@ -19,7 +19,6 @@ use Rattle.gr_lang.specs.declared.action.How.{How}
 use Rattle.gr_lang.specs.declared.action.How.TheVariants as how
 use Rattle.gr_lang.specs.declared.action.Action.{Action}
 use Rattle.gr_lang.specs.declared.action.Action.TheVariants as a
-use Rattle.gr_lang.specs.declared.action.TrapKind.{TrapKind}
 use Rattle.gr_lang.specs.declared.action.TrapKind.TheVariants as trap
 use Rattle.gr_lang.specs.declared.action.Reply.{Reply}
 use Rattle.gr_lang.specs.Locals.{Locals, set_word}
@@ -89,9 +88,9 @@ acted f (Some ws) = f ws
 abbrev pub if_fits : Program → Op → Action
 if_fits p op = if fits (opening p) op then a.Call op else a.Trap trap.Place
 
--- An accepted program names an operation in each of its calls; elsewhere a call ends its task.
+-- An accepted program names an operation in each of its calls; elsewhere a call is a trap, so that a task ends at the end of its body alone.
 abbrev pub named_action : Program → Option Operation → ℕ → ℕ → List ℕ → Action
-named_action p None object k ws = a.End
+named_action p None object k ws = a.Trap trap.Place
 named_action p (Some operation) object k ws = if_fits p (op_of operation object k ws)
 
 abbrev pub call_action : Program → Locals → CallText → Action
@@ -113,7 +112,7 @@ spawn_action p locals (Some way) target args = acted (λ ws. a.Spawn way (target
 -- A grain of 0 counts as 1.
 abbrev pub loop_action : Program → Name → List ℕ → Action
 loop_action p target (lo ∷ hi ∷ grain ∷ ws) = a.Loop lo hi (if grain == 0 then 1 else grain) (target_of p target.text) ws
-loop_action p target _ = a.End
+loop_action p target _ = a.Trap trap.Place
 
 -- What stands first: a pure step, which gives nothing where it divides by 0, or an action.
 pub data Look : Type 0 where

@@ -1,6 +1,6 @@
 -- One plain memory: words, sets, maps, lists and the live blocks of the heap, and what one call does to them and replies.
-use Rattle.std.specs.Prelude.{ℕ, zero, suc, ◌+◌, ◌-◌, ◌*◌, ◌%◌, ◌^◌, ◌==◌, Bool, true, false, not, ◌&&◌, ◌||◌, nat_lt, nat_le, bit_and, bit_or, bit_xor, min, max, if◌then◌else◌, List, [], ◌∷◌, ◌++◌, length, slice_get, slice_index, slice_set, Option, Some, None, is_some}
-use Rattle.std.specs.List.{list_any, list_all, filter}
+use Rattle.std.specs.Prelude.{ℕ, zero, suc, ◌+◌, ◌-◌, ◌%◌, ◌^◌, ◌==◌, Bool, not, ◌&&◌, ◌||◌, nat_lt, nat_le, bit_and, bit_or, bit_xor, min, max, if◌then◌else◌, List, [], ◌∷◌, ◌++◌, slice_get, slice_index, slice_set, Option, Some, None, is_some}
+use Rattle.std.specs.List.{list_all}
 use Rattle.std.specs.Ordering.{nat_cmp}
 use Rattle.std.specs.FinMap as map
 use Rattle.std.specs.FinSet as set
@@ -21,17 +21,12 @@ pub record Heap : Type 0 where
   pub from : ℕ
   pub count : ℕ
 
--- A live block of the heap.
-pub record Live : Type 0 where
-  pub start : ℕ
-  pub count : ℕ
-
--- The plain objects.
+-- The plain objects. The live blocks of the heap are kept by their starts, each with its number of words.
 pub record Objects : Type 0 where
   pub words : List ℕ
   pub things : List Object
   pub heap : Heap
-  pub live : List Live
+  pub live : map.FinMap nat_cmp ℕ
 
 -- The eight reducers: add (wrapping), min, max, or, and, xor, first, last. Each is associative on words.
 abbrev pub reduced : ℕ → ℕ → ℕ → ℕ
@@ -138,26 +133,29 @@ pop_in (Some (line (w ∷ ws))) o object = (with_object o object (line (but_last
 pop_in _ o object = (o, nothing)
 
 -- Whether n words from this start on touch no live block.
-abbrev pub is_free : List Live → ℕ → ℕ → Bool
-is_free live start n = list_all (λ b. nat_le (start + n) b.start || nat_le (b.start + b.count) start) live
+abbrev pub is_free : map.FinMap nat_cmp ℕ → ℕ → ℕ → Bool
+is_free live start n = list_all (λ b. nat_le (start + n) b.0 || nat_le (b.0 + b.1) start) (map.entries live)
 
 -- The least of `turns` starts, from this one on, at which n words are free.
-unfoldable pub least_start : ℕ → List Live → ℕ → ℕ → Option ℕ
+unfoldable pub least_start : ℕ → map.FinMap nat_cmp ℕ → ℕ → ℕ → Option ℕ
 least_start zero live start n = None
 least_start (suc turns) live start n = if is_free live start n then Some start else least_start turns live (start + 1) n
 
 -- The least start in the heap from which n words lie in the heap and in no live block; none for n = 0.
+abbrev pub start_in : Heap → map.FinMap nat_cmp ℕ → ℕ → Option ℕ
+start_in heap live n = if n == 0 then None else least_start (heap.count + 1 - n) live heap.from n
+
 abbrev pub start_for : Objects → ℕ → Option ℕ
-start_for o n = if n == 0 then None else least_start (o.heap.count + 1 - n) o.live o.heap.from n
+start_for o n = start_in o.heap o.live n
 
 -- alloc makes such a block live and replies its start, or 2^64 - 1 where there is none; words keep their values.
 abbrev pub alloc_at : Option ℕ → Objects → ℕ → Objects × Reply
 alloc_at None o n = (o, one (2 ^ 64 - 1))
-alloc_at (Some start) o n = (record o { live = o.live ++ record { start = start; count = n } ∷ [] }, one start)
+alloc_at (Some start) o n = (record o { live = map.insert o.live start n }, one start)
 
 -- free replies 1 where a live block starts at the address, which then isn't live any more.
 abbrev pub free_at : Objects → ℕ → Objects × Reply
-free_at o at = (record o { live = filter (λ b. not (b.start == at)) o.live }, one (number_of (list_any (λ b. b.start == at) o.live)))
+free_at o at = (record o { live = map.remove o.live at }, one (number_of (is_some (map.get o.live at))))
 
 -- The object call: the objects after one call, and its reply.
 abbrev pub call : Op → Objects → Objects × Reply

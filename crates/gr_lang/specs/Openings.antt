@@ -1,5 +1,5 @@
 -- The objects and tasks of a program by their numbers, which count from 0 in the order of the text, and the objects with which a run opens.
-use Rattle.std.specs.Prelude.{ℕ, ◌+◌, ◌-◌, ◌==◌, Bool, true, false, if◌then◌else◌, List, [], ◌∷◌, ◌++◌, length, map, replicate, Option, Some, None, unwrap_or, position, codes}
+use Rattle.std.specs.Prelude.{ℕ, ◌+◌, ◌-◌, if◌then◌else◌, List, [], ◌∷◌, ◌++◌, length, map, replicate, unwrap_or, position, codes}
 use Rattle.std.specs.Str.{bytes_eq}
 use Rattle.std.specs.FinMap as fin
 use Rattle.std.specs.FinSet as set
@@ -7,9 +7,8 @@ use Rattle.gr_lang.specs.declared.syntax.Item.{Item}
 use Rattle.gr_lang.specs.declared.syntax.Item.TheVariants as i
 use Rattle.gr_lang.specs.declared.syntax.Stmt.{Stmt}
 use Rattle.gr_lang.specs.declared.syntax.Name.{Name}
-use Rattle.gr_lang.specs.declared.syntax.Number.{Number}
 use Rattle.gr_lang.specs.declared.syntax.Program.{Program}
-use Rattle.gr_lang.specs.Objects.{Object, array, keys, pairs, line, Heap, Live, Objects, heap_number}
+use Rattle.gr_lang.specs.Objects.{Object, array, keys, pairs, line, Heap, Objects, heap_number}
 
 -- A task of the text.
 pub record TaskText : Type 0 where
@@ -73,7 +72,7 @@ opening p = record {
   words = array_words p.items p.items ++ replicate (heap_words p.items) 0;
   things = objects_from 0 p.items;
   heap = heap_of p;
-  live = [];
+  live = fin.empty;
 }
 
 -- The place of the first name that is this one.

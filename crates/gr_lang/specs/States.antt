@@ -5,6 +5,7 @@ use Rattle.std.specs.List.{list_any}
 use Rattle.std.specs.Ordering.{nat_cmp, ordering_then}
 use Rattle.std.specs.declared.cmp.Ordering.{Ordering}
 use Rattle.std.specs.FinMap as fin
+use Rattle.std.specs.FinSet as set
 use Rattle.gr_lang.specs.declared.syntax.Program.{Program}
 use Rattle.gr_lang.specs.declared.action.Action.{Action}
 use Rattle.gr_lang.specs.declared.action.TaskId.{TaskId}
@@ -37,7 +38,7 @@ pub record Range : Type 0 where
   pub hi : ℕ
   pub target : ℕ
   pub args : List ℕ
-  pub begun : List ℕ
+  pub begun : set.FinSet nat_cmp
 
 -- A scope: its owner and parent, and its range where it is a loop. The root has no owner.
 pub record Scope : Type 0 where
@@ -105,7 +106,7 @@ is_in S s r = is_under (length S.scopes) S.scopes s r
 -- Whether an index of the range hasn't begun.
 abbrev pub range_left : Option Range → Bool
 range_left None = false
-range_left (Some r) = nat_lt (length r.begun) (r.hi - r.lo)
+range_left (Some r) = nat_lt (set.len r.begun) (r.hi - r.lo)
 
 -- Whether a scope of the list, whose first has number n, stands under s and has such an index.
 abbrev pub ranges_left : State → ℕ → ℕ → List Scope → Bool

@@ -1,5 +1,5 @@
 -- Worked rows of the next action, the object call and the plain step, as statements on the definitions.
-use Rattle.std.specs.Prelude.{◌≡◌, ℕ, ◌-◌, ◌^◌, Bool, true, false, List, [], ◌∷◌, Option, Some, None, codes}
+use Rattle.std.specs.Prelude.{◌≡◌, ℕ, ◌-◌, ◌^◌, true, false, List, [], ◌∷◌, None, codes}
 use Rattle.std.specs.FinMap as fin
 use Rattle.std.specs.FinSet as set
 use Rattle.gr_lang.specs.declared.syntax.Program.{Program}
@@ -15,7 +15,6 @@ use Rattle.gr_lang.specs.declared.syntax.BinOp.TheVariants as sign
 use Rattle.gr_lang.specs.declared.syntax.Name.{Name}
 use Rattle.gr_lang.specs.declared.syntax.Number.{Number}
 use Rattle.gr_lang.specs.declared.syntax.Place.{Place}
-use Rattle.gr_lang.specs.declared.syntax.CallText.{CallText}
 use Rattle.gr_lang.specs.declared.action.Action.TheVariants as a
 use Rattle.gr_lang.specs.declared.action.Op.{Op}
 use Rattle.gr_lang.specs.declared.action.Op.TheVariants as o
@@ -25,7 +24,7 @@ use Rattle.gr_lang.specs.declared.action.Entry.TheVariants as e
 use Rattle.gr_lang.specs.declared.action.TrapKind.TheVariants as trap
 use Rattle.gr_lang.specs.declared.action.Reply.{Reply}
 use Rattle.gr_lang.specs.declared.action.TaskId.{TaskId}
-use Rattle.gr_lang.specs.Objects.{Objects, Object, array, keys, pairs, line, call, reduced, reply, nothing, one}
+use Rattle.gr_lang.specs.Objects.{Objects, array, keys, pairs, line, call, reply, nothing, one}
 use Rattle.gr_lang.specs.Next.{next, start}
 use Rattle.gr_lang.specs.States.{main_id}
 use Rattle.gr_lang.specs.Histories.{legal, complete}
@@ -124,7 +123,7 @@ objects = record {
   words = 4 ∷ 5 ∷ 0 ∷ 0 ∷ 0 ∷ 0 ∷ [];
   things = array 0 2 ∷ keys (set.insert set.empty 9) ∷ pairs (fin.insert fin.empty 7 2) ∷ line (1 ∷ 2 ∷ []) ∷ [];
   heap = record { from = 2; count = 4 };
-  live = record { start = 2; count = 2 } ∷ [];
+  live = fin.insert fin.empty 2 2;
 }
 
 -- What a call replies there.

@@ -1,9 +1,9 @@
 -- The plain step: the state after one entry, or nothing where the entry isn't allowed.
-use Rattle.std.specs.Prelude.{ℕ, ◌+◌, ◌==◌, Bool, true, false, not, ◌&&◌, nat_lt, nat_le, if◌then◌else◌, List, [], ◌∷◌, ◌++◌, length, slice_get, slice_set, Option, Some, None, is_none}
+use Rattle.std.specs.Prelude.{ℕ, ◌==◌, Bool, true, not, ◌&&◌, nat_lt, nat_le, if◌then◌else◌, List, [], ◌∷◌, ◌++◌, length, slice_get, slice_set, Option, Some, None, is_none}
 use Rattle.std.specs.Option.{option_and_then}
 use Rattle.std.specs.Str.{bytes_eq}
-use Rattle.std.specs.List.{list_any}
 use Rattle.std.specs.FinMap as fin
+use Rattle.std.specs.FinSet as set
 use Rattle.gr_lang.specs.declared.syntax.Program.{Program}
 use Rattle.gr_lang.specs.declared.action.Op.{Op}
 use Rattle.gr_lang.specs.declared.action.How.{How}
@@ -78,15 +78,15 @@ finish_step p L S id t _ = None
 abbrev pub loop_step : State → TaskId → Task → Action → ℕ → ℕ → ℕ → ℕ → List ℕ → Option State
 loop_step S id t (a.Loop lo hi grain target args) lo2 hi2 grain2 target2 args2 =
     when (lo == lo2 && hi == hi2 && grain == grain2 && target == target2 && bytes_eq args args2)
-    (open_scope S id t (record t { mode = at_loop }) (Some (record { lo = lo; hi = hi; target = target; args = args; begun = [] })))
+    (open_scope S id t (record t { mode = at_loop }) (Some (record { lo = lo; hi = hi; target = target; args = args; begun = set.empty })))
 loop_step S id t _ lo hi grain target args = None
 
 -- Begin: an index of the range that hasn't begun begins as a new task in the loop's scope, with the index before the arguments.
 abbrev pub begin_in : Program → ℕ → State → TaskId → ℕ → ℕ → TaskId → Scope → Option Range → Option State
 begin_in p L S owner s index kid scope None = None
 begin_in p L S owner s index kid scope (Some r) =
-    when (nat_le r.lo index && nat_lt index r.hi && not (list_any (λ k. k == index) r.begun) && is_new S kid)
-    (record (set_task S kid (child p L s r.target (index ∷ r.args))) { scopes = slice_set S.scopes s (record scope { range = Some (record r { begun = index ∷ r.begun }) }) })
+    when (nat_le r.lo index && nat_lt index r.hi && not (set.contains r.begun index) && is_new S kid)
+    (record (set_task S kid (child p L s r.target (index ∷ r.args))) { scopes = slice_set S.scopes s (record scope { range = Some (record r { begun = set.insert r.begun index }) }) })
 
 abbrev pub begin_at : Program → ℕ → State → TaskId → ℕ → TaskId → List ℕ → Option State
 begin_at p L S owner index kid [] = None
