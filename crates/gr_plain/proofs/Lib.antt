@@ -1,8 +1,3 @@
-pub mod Lines
-pub mod Trees
-pub mod AtThing
-pub mod Blocks
-pub mod ThingSteps
 pub mod Hits
 pub mod Ranges
 pub mod Reaches

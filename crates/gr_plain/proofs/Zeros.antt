@@ -2,7 +2,7 @@
 use Rattle.std.proofs.Common.{◌≡◌, ℕ, zero, suc, ◌-◌, ◌<◌, List, ◌∷◌, ap, arith, length, drop, sym, subst, slice_index_or, ◌+◌, add-one, All}
 use Rattle.std.proofs.Math.Seq.{drop-cons}
 use Rattle.std.proofs.lemmas.List.Elements.{All-cons}
-use Rattle.gr_plain.specs.declared.objects_things.Thing.{Thing}
+use Rattle.gr_memory.specs.declared.things.Thing.{Thing}
 use Rattle.std.specs.Prelude.{replicate}
 
 pub zeros_step : (n : ℕ) → 0 < n → replicate {A = ℕ} n 0 ≡ 0 ∷ replicate {A = ℕ} (n - 1) 0

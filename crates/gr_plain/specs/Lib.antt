@@ -1,8 +1,3 @@
-pub mod LineView
-pub mod ThingView
-pub mod ThingCalls
-pub mod BlockView
-pub mod MemoryView
 pub mod LocalView
 pub mod Ranges
 pub mod TableView

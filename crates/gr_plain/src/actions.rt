@@ -138,7 +138,9 @@ fn named_action(
     ensures { result ≡ named_action_of table.now operation object reducer words.now }
 {
     match operation {
-        None => Action::End,
+        None => Action::Trap {
+            kind: TrapKind::Place,
+        },
         Some(operation) => {
             let op = op_of(operation, object, reducer, words);
             if fits(table, &op) {

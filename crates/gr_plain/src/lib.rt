@@ -6,12 +6,6 @@ pub mod dues;
 pub mod expressions;
 pub mod laws;
 pub mod locals;
-pub mod memory;
-pub mod objects_blocks;
-pub mod objects_parts;
-#[cfg(test)]
-mod objects_tests;
-pub mod objects_things;
 pub mod opening;
 pub mod plain;
 #[cfg(test)]

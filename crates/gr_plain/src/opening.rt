@@ -3,10 +3,10 @@ ghost use Rattle.std.specs.Prelude.{◌≡◌, ◌++◌, All, IfOk, IsTrue, OnOk
 ghost use Rattle.gr_lang.specs.Next.{lets, lets_of};
 ghost use Rattle.gr_lang.specs.Openings.{array_words, heap_words, input_of, object_names, objects_from, opening, padded, tasks_of, texts};
 ghost use Rattle.gr_plain.specs.TableView.{IsHeap, knowns_of, reaches_of, row_of};
-ghost use Rattle.gr_plain.specs.ThingView.{LiesIn, things_of};
+ghost use Rattle.gr_memory.specs.ThingView.{LiesIn, things_of};
 
-use crate::memory::Memory;
-use crate::objects_things::Thing;
+use gr_memory::memory::Memory;
+use gr_memory::things::Thing;
 use crate::table::{HeapRange, TaskRow};
 use gr_lang::syntax::{Item, Names, Number, Program, Stmt, Text};
 use std::alloc::{AllocError, Global};

@@ -11,7 +11,7 @@ ghost use Rattle.gr_plain.specs.StackView.{under_top};
 ghost use Rattle.gr_plain.specs.TaskView.{mode_of};
 
 use crate::dues::{call_in, has_core, is_arrive, is_end, is_finish, is_loop, is_spawn, is_trap};
-use crate::memory::Memory;
+use gr_memory::memory::Memory;
 use crate::opening::open_memory;
 use crate::scopes::{RangeRow, ScopeRow, are_ranges_left, begin};
 use crate::table::Table;

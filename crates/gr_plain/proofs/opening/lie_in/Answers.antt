@@ -1,5 +1,5 @@
 use Rattle.std.proofs.Common.{subst}
-use Rattle.gr_plain.specs.ThingView.{LiesIn}
+use Rattle.gr_memory.specs.ThingView.{LiesIn}
 use Rattle.gr_plain.proofs.Zeros.{all_left}
 use Rattle.gr_plain.proofs.opening.lie_in.Goals as goal
 

@@ -1,6 +1,6 @@
 use Rattle.std.proofs.Common.{◌≡◌, ◌++◌, drop}
 use Rattle.gr_lang.specs.Openings.{objects_from}
-use Rattle.gr_plain.specs.ThingView.{things_of}
+use Rattle.gr_memory.specs.ThingView.{things_of}
 use Rattle.gr_plain.proofs.opening.things_in.Given as goal
 
 abbrev pub invariant-loop-item : goal.invariant-loop-item

@@ -1,0 +1,4 @@
+pub mod LineView
+pub mod ThingView
+pub mod ThingCalls
+pub mod MemoryView

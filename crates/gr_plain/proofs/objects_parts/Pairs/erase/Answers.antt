@@ -1,7 +1,0 @@
-use Rattle.std.proofs.Common.{◌∙◌, ap}
-use Rattle.std.specs.FinMap as fin
-use Rattle.gr_plain.proofs.Trees.{take_pair}
-use Rattle.gr_plain.proofs.objects_parts.Pairs.erase.Goals as goal
-
-pub returns : goal.returns
-returns c = take_pair c.self.inside.tree.entries c.remove.new.self.entries c.args.key c.remove.ensures.updates.0 ∙ ap (λ m. fin.remove m c.args.key) c.self.view_is

@@ -1,0 +1,68 @@
+-- What holds of every state that a history leads to: each task has opened its scopes one inside the other, and what isn't finished stands in a scope that isn't passed.
+use Rattle.std.specs.Prelude.{◌≡◌, ◌≢◌, ℕ, zero, suc, ◌+◌, ◌<◌, ◌==◌, ◌⊎◌, Bool, true, false, All, List, [], ◌∷◌, length, slice_get, Option, Some, None, if◌then◌else◌}
+use Rattle.std.specs.List.{list_any}
+use Rattle.std.specs.FinMap as fin
+use Rattle.gr_lang.specs.declared.syntax.Program.{Program}
+use Rattle.gr_lang.specs.declared.action.Action.{Action}
+use Rattle.gr_lang.specs.declared.action.Action.TheVariants as a
+use Rattle.gr_lang.specs.declared.action.TaskId.{TaskId}
+use Rattle.gr_lang.specs.Next.{Running, Todo, run, arrive, look, acts}
+use Rattle.gr_lang.specs.States.{Mode, going, at_loop, ended, trapped, Task, Scope, State, root, innermost_of, is_at_loop, range_left}
+
+-- The number of ends of `finish` that are still to do.
+abbrev pub arrives : List Todo → ℕ
+arrives [] = 0
+arrives (arrive ∷ rest) = suc (arrives rest)
+arrives (run s ∷ rest) = arrives rest
+
+abbrev pub IsTrap : Action → Type 0
+IsTrap (a.Trap kind) = Unit {0}
+IsTrap _ = ⊥
+
+abbrev pub IsLoop : Action → Type 0
+IsLoop (a.Loop lo hi grain target args) = Unit {0}
+IsLoop _ = ⊥
+
+-- The action is what stands first, or it is a trap.
+abbrev pub StandsAt : Program → Running → Action → Type 0
+StandsAt p t action = (look p t ≡ acts action) ⊎ IsTrap action
+
+-- A scope of this task, opened while these scopes of it stood open in scope `own`: its parent is the innermost of them, and they are older.
+pub record IsOpened (scopes : List Scope) (id : TaskId) (own : ℕ) (s : ℕ) (below : List ℕ) : Type 0 where
+  pub scope : Scope
+  pub there : slice_get scopes s ≡ Some scope
+  pub owner : scope.owner ≡ Some id
+  pub parent : scope.parent ≡ innermost_of own below
+  pub newer : All (λ k. k < s) below
+
+-- The scopes that a task has opened and not passed, the innermost first.
+abbrev pub AreOpened : List Scope → TaskId → ℕ → List ℕ → Type 0
+AreOpened scopes id own [] = Unit {0}
+AreOpened scopes id own (s ∷ ss) = IsOpened scopes id own s ss × AreOpened scopes id own ss
+
+-- Loops count as an end that is still to do, while the task waits there.
+abbrev pub waits : Mode → ℕ
+waits at_loop = 1
+waits _ = 0
+
+pub record IsValidTask (p : Program) (scopes : List Scope) (id : TaskId) (t : Task) : Type 0 where
+  pub stands : StandsAt p t.running t.action
+  pub loops : t.mode ≡ at_loop → IsLoop t.action
+  pub opened : AreOpened scopes id t.scope t.opened
+  pub level : arrives t.running.todo + waits t.mode ≡ length t.opened
+  pub over : t.mode ≡ ended → t.opened ≡ []
+
+-- Some task has opened the scope and not passed it.
+pub record IsOpen (S : State) (s : ℕ) : Type 0 where
+  pub id : TaskId
+  pub task : Task
+  pub there : fin.get S.tasks id ≡ Some task
+  pub opened : list_any (λ k. k == s) task.opened ≡ true
+
+pub record IsValid (p : Program) (S : State) : Type 0 where
+  pub root : slice_get S.scopes 0 ≡ Some root
+  pub tasks : (id : TaskId) (t : Task) → fin.get S.tasks id ≡ Some t → IsValidTask p S.scopes id t
+  -- a task that hasn't ended stands in the root or in a scope that is open
+  pub held : (id : TaskId) (t : Task) → fin.get S.tasks id ≡ Some t → t.mode ≢ ended → (t.scope ≡ 0) ⊎ IsOpen S t.scope
+  -- a loop of which an index hasn't begun is open
+  pub ranges : (s : ℕ) (x : Scope) → slice_get S.scopes s ≡ Some x → range_left x.range ≡ true → IsOpen S s

@@ -1,0 +1,42 @@
+-- The work that is left under a scope which waits to be passed is the work that stands in it directly.
+use Rattle.std.specs.Prelude.{◌≡◌, ℕ, ◌==◌, Bool, false, not, ◌&&◌, ◌||◌, ◌⊎◌, List, ◌∷◌, Option, Some, slice_get}
+use Rattle.std.specs.List.{list_any}
+use Rattle.std.specs.Option.{option_map_or}
+use Rattle.std.specs.FinMap as fin
+use Rattle.gr_lang.specs.declared.syntax.Program.{Program}
+use Rattle.gr_lang.specs.declared.action.Entry.{Entry}
+use Rattle.gr_lang.specs.declared.action.TaskId.{TaskId}
+use Rattle.gr_lang.specs.States.{Task, State, has_ended, range_left, left, opening_state}
+use Rattle.gr_lang.specs.Steps.{step}
+use Rattle.gr_valid.specs.Valid.{IsValid}
+
+-- Whether the task stands in scope s and hasn't ended.
+abbrev pub works_in : ℕ → Task → Bool
+works_in s t = not (has_ended t.mode) && t.scope == s
+
+abbrev pub has_task : State → ℕ → Bool
+has_task S s = list_any (works_in s) (fin.values S.tasks)
+
+abbrev pub has_index : State → ℕ → Bool
+has_index S s = option_map_or (λ x. range_left x.range) (slice_get S.scopes s) false
+
+-- The innermost scope that a task has opened, and the root: what is passed next.
+pub record IsInnermost (S : State) (s : ℕ) : Type 0 where
+  pub id : TaskId
+  pub task : Task
+  pub there : fin.get S.tasks id ≡ Some task
+  pub below : List ℕ
+  pub opened : task.opened ≡ s ∷ below
+
+abbrev pub CanBePassed : State → ℕ → Type 0
+CanBePassed S s = (s ≡ 0) ⊎ IsInnermost S s
+
+-- The laws.
+abbrev pub OpensValid : Type 0
+OpensValid = (p : Program) (L : ℕ) → IsValid p (opening_state p L)
+
+abbrev pub StepsValid : Type 0
+StepsValid = (p : Program) (N L : ℕ) (S T : State) (e : Entry) → IsValid p S → step p N L S e ≡ Some T → IsValid p T
+
+abbrev pub WorkIsDirect : Type 0
+WorkIsDirect = (p : Program) (S : State) (s : ℕ) → IsValid p S → CanBePassed S s → left S s ≡ (has_task S s || has_index S s)

@@ -1,0 +1,13 @@
+//! The laws, each the contract of a function that does nothing.
+ghost use Rattle.gr_valid.specs.Work.{OpensValid, StepsValid, WorkIsDirect};
+
+/// The opening state is valid, and a step of a valid state leads to a valid state.
+pub fn states_stay_valid()
+    ensures opens { OpensValid }
+    ensures steps { StepsValid }
+{}
+
+/// The work that is left under a scope which waits to be passed stands in that scope itself.
+pub fn work_is_direct()
+    ensures { WorkIsDirect }
+{}

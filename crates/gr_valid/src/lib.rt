@@ -1,0 +1,4 @@
+//! What holds of every state that a history leads to.
+#![tactic(auto)]
+
+pub mod laws;
