@@ -23,6 +23,10 @@ IsNoStep p N L S line = option_and_then (step p N L S) (entry_in p line) ≡ Non
 
 -- p is the program, N the number of cores, L the limit of pure steps.
 pub data Judged (p : Program) (N L : ℕ) (lines : List NamedEntry) : Verdict → Type 0 where
-  legal : {history : List Entry} {S : State} → Names p lines history → final p N L history ≡ Some S → Judged p N L lines (legal S.passed)
-  not_legal : {front rest : List NamedEntry} {line : NamedEntry} {history : List Entry} {S : State} → lines ≡ front ++ line ∷ rest → Names p front history
+  whole : (history : List Entry) (S : State) → Names p lines history → final p N L history ≡ Some S → Judged p N L lines (legal S.passed)
+  stops : (front rest : List NamedEntry) (line : NamedEntry) (history : List Entry) (S : State) → lines ≡ front ++ line ∷ rest → Names p front history
       → final p N L history ≡ Some S → IsNoStep p N L S line → Judged p N L lines (not_legal (length front + 1))
+
+-- A history text has one verdict.
+abbrev pub JudgesOnce : Type 0
+JudgesOnce = (p : Program) (N L : ℕ) (lines : List NamedEntry) (v w : Verdict) → Judged p N L lines v → Judged p N L lines w → v ≡ w
