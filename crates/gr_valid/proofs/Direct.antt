@@ -32,7 +32,8 @@ root_alone (suc d) scopes s h n u = let k = under_up d scopes s 0 root n h u in 
 same_scope : (scopes : List Scope) (r : ℕ) (x y : Scope) → slice_get scopes r ≡ Some x → slice_get scopes r ≡ Some y → x ≡ y
 same_scope scopes r x y h k = let e : Some x ≡ Some y = sym h ∙ k in cc
 
-root_unowned : (S : State) (id : TaskId) (x : Scope) → slice_get S.scopes 0 ≡ Some root → slice_get S.scopes 0 ≡ Some x → x.owner ≡ Some id → ⊥
+-- No task has opened the root.
+pub root_unowned : (S : State) (id : TaskId) (x : Scope) → slice_get S.scopes 0 ≡ Some root → slice_get S.scopes 0 ≡ Some x → x.owner ≡ Some id → ⊥
 root_unowned S id x h k o = let e : None ≡ Some id = ap (λ (z : Scope). z.owner) (same_scope S.scopes 0 root x h k) ∙ o in cc
 
 same_task : (S : State) (i j : TaskId) (t u : Task) → i ≡ j → fin.get S.tasks i ≡ Some t → fin.get S.tasks j ≡ Some u → t ≡ u
