@@ -5,3 +5,8 @@ pub mod Counts
 pub mod Direct
 pub mod Changes
 pub mod Goes
+pub mod Inverts
+pub mod Calls
+pub mod Opens
+pub mod Passes
+pub mod States
