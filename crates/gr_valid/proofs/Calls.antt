@@ -1,5 +1,5 @@
 -- Calls and spawns keep a state valid.
-use Rattle.std.proofs.Common.{◌≡◌, ◌≢◌, ℕ, ◌+◌, ◌==◌, List, [], ◌∷◌, length, Bool, true, false, ◌&&◌, ◌⊎◌, inl, inr, Option, Some, None, refl, sym, ap, ◌∙◌, subst, arith, bytes_eq}
+use Rattle.std.proofs.Common.{◌≡◌, ◌≢◌, ℕ, ◌+◌, ◌==◌, List, [], ◌∷◌, length, false, ◌&&◌, ◌⊎◌, inl, inr, Some, None, refl, sym, ap, ◌∙◌, subst, arith, bytes_eq}
 use Rattle.std.specs.Ordering.{eq_by_cmp}
 use Rattle.std.specs.FinMap.{insert, get}
 use Rattle.gr_lang.specs.declared.syntax.Program.{Program}
@@ -14,7 +14,7 @@ use Rattle.gr_lang.specs.Objects.{nothing}
 use Rattle.gr_lang.specs.Next.{go_on}
 use Rattle.gr_lang.specs.States.{going, ended, Task, State, id_cmp, innermost, innermost_of, child}
 use Rattle.gr_lang.specs.Steps.{set_task, goes_on, called, call_step, spawn_step, has_core, is_new as new_id}
-use Rattle.gr_valid.specs.Valid.{arrives, IsTrap, IsValid, IsValidTask, IsOpen}
+use Rattle.gr_valid.specs.Valid.{arrives, IsValid, IsValidTask, IsOpen}
 use Rattle.gr_valid.proofs.Maps.{id_split, get_same, get_other}
 use Rattle.gr_valid.proofs.Scopes.{holds, holds_first}
 use Rattle.gr_valid.proofs.Counts.{and_both}

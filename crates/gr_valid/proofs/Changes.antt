@@ -1,15 +1,15 @@
 -- Changes that keep a state valid: a task goes on or closes a scope, a task is new, a scope is opened, an index begins.
-use Rattle.std.proofs.Common.{◌≡◌, ◌≢◌, ℕ, List, [], ◌∷◌, ◌++◌, length, slice_get, Bool, true, false, ◌⊎◌, inl, inr, Option, Some, None, refl, sym, ap, ◌∙◌, subst}
+use Rattle.std.proofs.Common.{◌≡◌, ◌≢◌, ℕ, List, [], ◌∷◌, ◌++◌, length, slice_get, true, false, ◌⊎◌, inl, inr, Option, Some, None, refl, sym, ap, ◌∙◌, subst}
 use Rattle.std.specs.Ordering.{eq_by_cmp}
 use Rattle.std.specs.FinMap.{insert, get}
 use Rattle.gr_lang.specs.declared.syntax.Program.{Program}
 use Rattle.gr_lang.specs.declared.action.TaskId.{TaskId}
-use Rattle.gr_lang.specs.States.{Mode, ended, Task, Range, Scope, State, id_cmp, root, range_left}
+use Rattle.gr_lang.specs.States.{ended, Task, Range, Scope, State, id_cmp, root, range_left}
 use Rattle.gr_lang.specs.Steps.{set_task, new_scope, open_scope}
 use Rattle.gr_valid.specs.Valid.{IsValid, IsValidTask, IsOpen}
-use Rattle.gr_valid.proofs.Maps.{id_split, get_same, get_other, found_put, found_still}
+use Rattle.gr_valid.proofs.Maps.{IsPut, id_split, get_same, get_other, found_put, found_still}
 use Rattle.gr_valid.proofs.Counts.{Worker}
-use Rattle.gr_valid.proofs.Scopes.{holds, holds_first, holds_later, get_append, found_append, get_last, Keep, keep_append, task_kept}
+use Rattle.gr_valid.proofs.Scopes.{holds, holds_first, holds_later, get_append, found_append, Keep, keep_append, task_kept}
 
 -- ---- a scope stays open
 
@@ -71,7 +71,7 @@ set_valid p S id t u h at scope mode closes valid = record {
     T : State
     T = set_task S id u
 
-    tasks : (q : TaskId) (v : Task) → ((q ≡ id) × (u ≡ v)) ⊎ ((eq_by_cmp id_cmp q id ≡ false) × (get S.tasks q ≡ Some v)) → IsValidTask p S.scopes q v
+    tasks : (q : TaskId) (v : Task) → IsPut S.tasks id u q v → IsValidTask p S.scopes q v
     tasks q v (inl e) = subst (λ x. IsValidTask p S.scopes x v) (sym e.0) (subst (IsValidTask p S.scopes id) e.1 valid)
     tasks q v (inr e) = h.tasks q v e.1
 
@@ -80,7 +80,7 @@ set_valid p S id t u h at scope mode closes valid = record {
         either (IsOpen S v.scope) (IsOpen T v.scope) v.scope
         (open_set S T id t u at refl v.scope (closes v.scope (inl (record { id = q; task = v; there = e; works = n; scope = refl })))) (h.held q v e n)
 
-    held : (q : TaskId) (v : Task) → v.mode ≢ ended → ((q ≡ id) × (u ≡ v)) ⊎ ((eq_by_cmp id_cmp q id ≡ false) × (get S.tasks q ≡ Some v)) → (v.scope ≡ 0) ⊎ IsOpen T v.scope
+    held : (q : TaskId) (v : Task) → v.mode ≢ ended → IsPut S.tasks id u q v → (v.scope ≡ 0) ⊎ IsOpen T v.scope
     held q v n (inl e) =
         let k : t.scope ≡ v.scope = sym scope ∙ ap (λ (x : Task). x.scope) e.1 in
         subst (λ r. (r ≡ 0) ⊎ IsOpen T r) k (still id t at (mode (λ m. n (ap (λ (x : Task). x.mode) (sym e.1) ∙ m))))
@@ -100,11 +100,11 @@ new_valid p S id u h new scope valid = record {
     T : State
     T = set_task S id u
 
-    tasks : (q : TaskId) (v : Task) → ((q ≡ id) × (u ≡ v)) ⊎ ((eq_by_cmp id_cmp q id ≡ false) × (get S.tasks q ≡ Some v)) → IsValidTask p S.scopes q v
+    tasks : (q : TaskId) (v : Task) → IsPut S.tasks id u q v → IsValidTask p S.scopes q v
     tasks q v (inl e) = subst (λ x. IsValidTask p S.scopes x v) (sym e.0) (subst (IsValidTask p S.scopes id) e.1 valid)
     tasks q v (inr e) = h.tasks q v e.1
 
-    held : (q : TaskId) (v : Task) → v.mode ≢ ended → ((q ≡ id) × (u ≡ v)) ⊎ ((eq_by_cmp id_cmp q id ≡ false) × (get S.tasks q ≡ Some v)) → (v.scope ≡ 0) ⊎ IsOpen T v.scope
+    held : (q : TaskId) (v : Task) → v.mode ≢ ended → IsPut S.tasks id u q v → (v.scope ≡ 0) ⊎ IsOpen T v.scope
     held q v n (inl e) = subst (λ (x : Task). (x.scope ≡ 0) ⊎ IsOpen T x.scope) e.1 (either (IsOpen S u.scope) (IsOpen T u.scope) u.scope (open_new S T id u new refl u.scope) scope)
     held q v n (inr e) = either (IsOpen S v.scope) (IsOpen T v.scope) v.scope (open_new S T id u new refl v.scope) (h.held q v e.1 n)
 
@@ -143,11 +143,11 @@ open_valid p S id t u range h at scope works valid = record {
     stays : (r : ℕ) → IsOpen S r → IsOpen T r
     stays r o = open_set S T id t w at refl r (holds_later (length S.scopes) r t.opened) o
 
-    tasks : (q : TaskId) (v : Task) → ((q ≡ id) × (w ≡ v)) ⊎ ((eq_by_cmp id_cmp q id ≡ false) × (get S.tasks q ≡ Some v)) → IsValidTask p (S.scopes ++ new_scope t id range ∷ []) q v
+    tasks : (q : TaskId) (v : Task) → IsPut S.tasks id w q v → IsValidTask p (S.scopes ++ new_scope t id range ∷ []) q v
     tasks q v (inl e) = subst (λ x. IsValidTask p (S.scopes ++ new_scope t id range ∷ []) x v) (sym e.0) (subst (IsValidTask p (S.scopes ++ new_scope t id range ∷ []) id) e.1 valid)
     tasks q v (inr e) = task_kept p S.scopes (S.scopes ++ new_scope t id range ∷ []) q v (keep_append S.scopes (new_scope t id range ∷ [])) (h.tasks q v e.1)
 
-    held : (q : TaskId) (v : Task) → v.mode ≢ ended → ((q ≡ id) × (w ≡ v)) ⊎ ((eq_by_cmp id_cmp q id ≡ false) × (get S.tasks q ≡ Some v)) → (v.scope ≡ 0) ⊎ IsOpen T v.scope
+    held : (q : TaskId) (v : Task) → v.mode ≢ ended → IsPut S.tasks id w q v → (v.scope ≡ 0) ⊎ IsOpen T v.scope
     held q v n (inl e) =
         subst (λ r. (r ≡ 0) ⊎ IsOpen T r) (sym scope ∙ ap (λ (x : Task). x.scope) e.1) (either (IsOpen S t.scope) (IsOpen T t.scope) t.scope (stays t.scope) (h.held id t at works))
     held q v n (inr e) = either (IsOpen S v.scope) (IsOpen T v.scope) v.scope (stays v.scope) (h.held q v e.1 n)

@@ -1,13 +1,13 @@
 -- The work that is left under a scope which waits to be passed stands in the scope itself.
-use Rattle.std.proofs.Common.{◌≡◌, ◌≢◌, ℕ, zero, suc, ◌+◌, ◌<◌, ◌==◌, List, [], ◌∷◌, slice_get, Bool, true, false, ◌&&◌, ◌||◌, ◌⊎◌, inl, inr, Option, Some, None, is_some, refl, sym, ap, ◌∙◌, subst, arith}
+use Rattle.std.proofs.Common.{◌≡◌, ◌≢◌, ℕ, zero, suc, ◌+◌, ◌<◌, ◌==◌, List, [], ◌∷◌, slice_get, true, false, ◌&&◌, ◌||◌, ◌⊎◌, inl, inr, Option, Some, None, is_some, refl, sym, ap, ◌∙◌, subst, arith}
 use Rattle.std.specs.Option.{option_map_or}
 use Rattle.std.proofs.lemmas.Bool.{eqb-true}
 use Rattle.std.specs.FinMap as fin
 use Rattle.gr_lang.specs.declared.syntax.Program.{Program}
 use Rattle.gr_lang.specs.declared.action.TaskId.{TaskId}
-use Rattle.gr_lang.specs.States.{Mode, ended, Task, Scope, State, root, innermost_of, is_under, is_in, range_left, left}
+use Rattle.gr_lang.specs.States.{ended, Task, Scope, State, root, innermost_of, is_under, is_in, range_left, left}
 use Rattle.gr_valid.specs.Valid.{IsValid, IsValidTask, IsOpen, IsOpened, AreOpened}
-use Rattle.gr_valid.specs.Work.{WorkIsDirect, CanBePassed, IsInnermost, has_task, has_index}
+use Rattle.gr_valid.specs.Work.{WorkIsDirect, CanBePassed, has_task, has_index}
 use Rattle.gr_valid.proofs.Scopes.{holds, number_split, held_first, holds_first, below_is_less, IsOneOf, one_of}
 use Rattle.gr_valid.proofs.Counts.{and_both, or_one, or_first, or_second, same_truth, Worker, worker_has, has_worker, TaskIn, RangeIn, worker_left, index_left, left_is}
 

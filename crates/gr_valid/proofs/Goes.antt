@@ -1,5 +1,5 @@
 -- Tasks that are valid: a new one, and one that goes on, waits at its loop, ends or is trapped.
-use Rattle.std.proofs.Common.{◌≡◌, ◌≢◌, ℕ, suc, ◌+◌, List, [], ◌∷◌, ◌++◌, length, ◌⊎◌, inl, inr, Option, Some, None, refl, sym, ap, ◌∙◌, subst, arith}
+use Rattle.std.proofs.Common.{◌≡◌, ℕ, ◌+◌, List, [], ◌∷◌, ◌++◌, length, inl, inr, Option, refl, sym, ap, ◌∙◌, subst, arith}
 use Rattle.gr_lang.specs.declared.syntax.Program.{Program}
 use Rattle.gr_lang.specs.declared.action.Action.{Action}
 use Rattle.gr_lang.specs.declared.action.Action.TheVariants as a
@@ -8,7 +8,7 @@ use Rattle.gr_lang.specs.declared.action.TaskId.{TaskId}
 use Rattle.gr_lang.specs.Next.{look, acts, next, go_on, start}
 use Rattle.gr_lang.specs.States.{Mode, going, at_loop, ended, trapped, Task, Range, Scope, child}
 use Rattle.gr_lang.specs.Steps.{goes_on, new_scope}
-use Rattle.gr_valid.specs.Valid.{arrives, waits, IsTrap, IsLoop, StandsAt, IsOpened, AreOpened, IsValidTask}
+use Rattle.gr_valid.specs.Valid.{arrives, waits, IsTrap, IsLoop, StandsAt, AreOpened, IsValidTask}
 use Rattle.gr_valid.proofs.Looks.{IsNext, next_is, start_arrives, Went, go_on_went}
 use Rattle.gr_valid.proofs.Scopes.{get_last, keep_append, opened_kept, are_older}
 
@@ -44,7 +44,7 @@ pub opened_next : (xs : List Scope) (id : TaskId) (t : Task) (range : Option Ran
     → AreOpened (xs ++ new_scope t id range ∷ []) id t.scope (length xs ∷ t.opened)
 opened_next xs id t range h = (
   record { scope = new_scope t id range; there = get_last xs (new_scope t id range); owner = refl; parent = refl; newer = are_older xs id t.scope t.opened h },
-  opened_kept xs (xs ++ new_scope t id range ∷ []) id t.scope t.opened (keep_append xs (new_scope t id range ∷ [])) h
+  opened_kept xs (xs ++ new_scope t id range ∷ []) id t.scope t.opened (keep_append xs (new_scope t id range ∷ [])) h,
 )
 
 pub waits_valid : (p : Program) (xs : List Scope) (id : TaskId) (t : Task) (range : Option Range) → IsValidTask p xs id t → t.mode ≡ going → IsLoop t.action

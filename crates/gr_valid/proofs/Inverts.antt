@@ -1,8 +1,8 @@
 -- What a step tells: the task is there, in its mode, and the tests hold.
-use Rattle.std.proofs.Common.{◌≡◌, ◌≢◌, Bool, true, false, Option, Some, None, refl, ap, ◌∙◌}
+use Rattle.std.proofs.Common.{◌≡◌, ◌≢◌, Bool, true, false, Option, Some, None, refl}
 use Rattle.std.specs.Prelude.{if◌then◌else◌, is_none}
 use Rattle.std.specs.Option.{option_and_then}
-use Rattle.gr_lang.specs.States.{Mode, going, at_loop, ended, trapped, Task, State, is_going, is_at_loop}
+use Rattle.gr_lang.specs.States.{Mode, going, at_loop, ended, State, is_going, is_at_loop}
 use Rattle.gr_lang.specs.Steps.{when}
 
 pub by_found : {A : Type 0} (o : Option A) (f : A → Option State) (T : State) → option_and_then f o ≡ Some T → (x : A) × (o ≡ Some x) × (f x ≡ Some T)

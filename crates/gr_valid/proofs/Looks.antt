@@ -1,5 +1,5 @@
 -- The ends of `finish` that are still to do: pure steps keep their number, and a task that goes on has one more after a `finish`, and one fewer after its end.
-use Rattle.std.proofs.Common.{◌≡◌, ℕ, zero, suc, List, [], ◌∷◌, ◌++◌, slice_get, Bool, true, false, ◌⊎◌, inl, inr, ◌==◌, if◌then◌else◌, Option, Some, None, refl, sym, ap, ◌∙◌, subst}
+use Rattle.std.proofs.Common.{◌≡◌, ℕ, zero, suc, List, [], ◌∷◌, ◌++◌, slice_get, Bool, true, false, inl, inr, ◌==◌, if◌then◌else◌, Option, Some, None, refl, sym, ap, ◌∙◌, subst}
 use Rattle.std.specs.Option.{option_map, option_map_or}
 use Rattle.gr_lang.specs.declared.syntax.Stmt.{Stmt, out-Stmt}
 use Rattle.gr_lang.specs.declared.syntax.Stmt.TheOpen.{Stmt-F}
@@ -20,9 +20,9 @@ use Rattle.gr_lang.specs.declared.action.Reply.{Reply}
 use Rattle.gr_lang.specs.Locals.{Locals}
 use Rattle.gr_lang.specs.Expressions.{value, values}
 use Rattle.gr_lang.specs.Operations.{operation_of}
-use Rattle.gr_lang.specs.Openings.{opening, object_of, target_of, TaskText, tasks_of}
-use Rattle.gr_lang.specs.Next.{Todo, Running, run, arrive, runs, Look, pure, acts, look, look_at, look_set, look_todo, next, at_limit, after_look, Stands, go_on, go_on_todo, go_on_at, acted, named_action, if_fits, fits, op_of, call_action, reducer_number, spawn_action, loop_action, how_of, set_all, start, start_at}
-use Rattle.gr_valid.specs.Valid.{arrives, IsTrap, StandsAt}
+use Rattle.gr_lang.specs.Openings.{object_of, TaskText, tasks_of}
+use Rattle.gr_lang.specs.Next.{Todo, Running, run, arrive, runs, Look, pure, acts, look, look_at, look_set, look_todo, next, at_limit, after_look, Stands, go_on, go_on_todo, go_on_at, acted, named_action, op_of, call_action, reducer_number, spawn_action, loop_action, how_of, set_all, start, start_at}
+use Rattle.gr_valid.specs.Valid.{arrives, StandsAt}
 
 pub arrives_runs : (ss : List Stmt) (rest : List Todo) → arrives (runs ss ++ rest) ≡ arrives rest
 arrives_runs [] rest = refl

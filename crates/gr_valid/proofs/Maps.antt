@@ -1,5 +1,5 @@
 -- Looking up a task after a task was put in, and the tasks of a map as a list.
-use Rattle.std.proofs.Common.{◌≡◌, ℕ, List, [], ◌∷◌, map, Bool, true, false, cond, T, ◌&&◌, ◌||◌, ◌⊎◌, inl, inr, Option, Some, None, Ordering, Less, Equal, Greater, is_eq, is_lt, refl, sym, ap, ◌∙◌, subst}
+use Rattle.std.proofs.Common.{◌≡◌, List, [], ◌∷◌, map, Bool, true, false, cond, T, ◌&&◌, ◌||◌, ◌⊎◌, inl, inr, Option, Some, None, Ordering, Less, Equal, Greater, is_eq, is_lt, refl, sym, ap, ◌∙◌}
 use Rattle.std.specs.List.{list_any}
 use Rattle.std.specs.Ordering.{eq_by_cmp}
 use Rattle.std.specs.Cmp.{eq_by_cmp_equiv}
@@ -41,12 +41,14 @@ module _ {X : Type 0} where
   pub get_other : (m : FinMap id_cmp X) (s q : TaskId) (n : X) → eq_by_cmp id_cmp q s ≡ false → get (insert m s n) q ≡ get m q
   get_other m s q n h = get_put m s n q ∙ ap (λ b. cond b (Some n) (get m q)) h
 
-  -- What is found after n was put in at s: n itself at s, or what stood there before.
-  pub found_put : (m : FinMap id_cmp X) (s q : TaskId) (n t : X) → get (insert m s n) q ≡ Some t
-      → ((q ≡ s) × (n ≡ t)) ⊎ ((eq_by_cmp id_cmp q s ≡ false) × (get m q ≡ Some t))
+  -- A task that is found at q after n was put in at s: n itself at s, or what stood there before.
+  abbrev pub IsPut : FinMap id_cmp X → TaskId → X → TaskId → X → Type 0
+  IsPut m s n q t = ((q ≡ s) × (n ≡ t)) ⊎ ((eq_by_cmp id_cmp q s ≡ false) × (get m q ≡ Some t))
+
+  pub found_put : (m : FinMap id_cmp X) (s q : TaskId) (n t : X) → get (insert m s n) q ≡ Some t → IsPut m s n q t
   found_put m s q n t h = by (id_split q s)
     where
-      by : (q ≡ s) ⊎ (eq_by_cmp id_cmp q s ≡ false) → ((q ≡ s) × (n ≡ t)) ⊎ ((eq_by_cmp id_cmp q s ≡ false) × (get m q ≡ Some t))
+      by : (q ≡ s) ⊎ (eq_by_cmp id_cmp q s ≡ false) → IsPut m s n q t
       by (inl e) =
           let k : Some n ≡ Some t = sym (get_same m s n) ∙ ap (λ (x : TaskId). get (insert m s n) x) (sym e) ∙ h in
           let v : n ≡ t = cc in inl (e, v)

@@ -1,5 +1,5 @@
 -- A finish, a loop and the beginning of an index keep a state valid.
-use Rattle.std.proofs.Common.{◌≡◌, ◌≢◌, ℕ, suc, ◌+◌, ◌==◌, List, [], ◌∷◌, ◌++◌, length, slice_get, slice_set, Bool, true, not, ◌&&◌, nat_lt, nat_le, ◌⊎◌, inl, inr, Option, Some, None, refl, sym, ap, ◌∙◌, subst, arith}
+use Rattle.std.proofs.Common.{◌≡◌, ◌≢◌, ℕ, suc, ◌+◌, List, [], ◌∷◌, ◌++◌, length, slice_get, slice_set, true, not, ◌&&◌, nat_lt, nat_le, ◌⊎◌, inl, inr, Option, Some, None, refl, sym, ap, ◌∙◌, subst, arith}
 use Rattle.std.specs.FinMap.{get}
 use Rattle.std.specs.FinSet as set
 use Rattle.gr_lang.specs.declared.syntax.Program.{Program}
@@ -8,10 +8,10 @@ use Rattle.gr_lang.specs.declared.action.Action.TheVariants as a
 use Rattle.gr_lang.specs.declared.action.TaskId.{TaskId}
 use Rattle.gr_lang.specs.Objects.{nothing}
 use Rattle.gr_lang.specs.Next.{go_on}
-use Rattle.gr_lang.specs.States.{going, at_loop, ended, Task, Range, Scope, State, root, child, range_left}
+use Rattle.gr_lang.specs.States.{going, at_loop, Task, Range, Scope, State, child, range_left}
 use Rattle.gr_lang.specs.Steps.{set_task, goes_on, new_scope, open_scope, finish_step, loop_step, begin_in, begin_at, begin_step, is_new as new_id}
 use Rattle.gr_valid.specs.Valid.{arrives, IsLoop, IsValid, IsValidTask, IsOpen, IsOpened, AreOpened}
-use Rattle.gr_valid.proofs.Scopes.{holds, holds_first, number_split, get_unset, get_set, Keep, keep_set}
+use Rattle.gr_valid.proofs.Scopes.{holds, holds_first, number_split, get_unset, keep_set}
 use Rattle.gr_valid.proofs.Counts.{and_both}
 use Rattle.gr_valid.proofs.Direct.{root_unowned}
 use Rattle.gr_valid.proofs.Changes.{open_same, scopes_valid, new_valid, open_valid}

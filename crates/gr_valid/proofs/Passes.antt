@@ -1,9 +1,8 @@
 -- The passing of a scope, the end of a task, a trap and the end of all work keep a state valid.
-use Rattle.std.proofs.Common.{◌≡◌, ◌≢◌, ℕ, suc, ◌+◌, List, [], ◌∷◌, length, slice_get, Bool, true, false, not, ◌&&◌, ◌⊎◌, inl, inr, Option, Some, None, refl, sym, ap, ◌∙◌, subst, arith}
+use Rattle.std.proofs.Common.{◌≡◌, ◌≢◌, ℕ, suc, List, [], ◌∷◌, length, true, not, ◌⊎◌, inl, inr, Some, None, refl, sym, ap, ◌∙◌, subst, arith}
 use Rattle.std.specs.Prelude.{if◌then◌else◌}
 use Rattle.std.specs.FinMap.{get}
 use Rattle.gr_lang.specs.declared.syntax.Program.{Program}
-use Rattle.gr_lang.specs.declared.action.How.{How}
 use Rattle.gr_lang.specs.declared.action.Action.{Action}
 use Rattle.gr_lang.specs.declared.action.Action.TheVariants as a
 use Rattle.gr_lang.specs.declared.action.TrapKind.{TrapKind}
@@ -13,13 +12,12 @@ use Rattle.gr_lang.specs.Objects.{nothing}
 use Rattle.gr_lang.specs.Next.{go_on}
 use Rattle.gr_lang.specs.States.{Mode, going, at_loop, ended, trapped, Task, Scope, State, is_going, is_at_loop, left}
 use Rattle.gr_lang.specs.Steps.{set_task, goes_on, pass_from, arrive_step, pass_step, end_step, trap_step, over_step}
-use Rattle.gr_valid.specs.Valid.{arrives, waits, IsLoop, IsValid, IsValidTask, AreOpened}
-use Rattle.gr_valid.proofs.Looks.{Went}
+use Rattle.gr_valid.specs.Valid.{arrives, IsLoop, IsValid, IsValidTask, AreOpened}
 use Rattle.gr_valid.proofs.Scopes.{holds, held_first}
 use Rattle.gr_valid.proofs.Counts.{Worker, worker_left, index_left}
 use Rattle.gr_valid.proofs.Changes.{LoopsAt, Closes, same_valid, set_valid}
 use Rattle.gr_valid.proofs.Goes.{went, level_at, goes_valid, ends_valid, traps_valid}
-use Rattle.gr_valid.proofs.Inverts.{by_going, tells_when, going_works, loop_works}
+use Rattle.gr_valid.proofs.Inverts.{tells_when, going_works, loop_works}
 
 -- ---- the passing of a scope
 
