@@ -12,6 +12,7 @@ use Rattle.gr_cli.specs.Values.{command_of, given, kind_of, number_of, values_of
 use Rattle.gr_cli.specs.declared.numbers.Numbers.{Numbers}
 use Rattle.gr_cli.specs.declared.settings.Options.{Options}
 
+-- Equal options hold equal values.
 some-same : {A : Type 0} {x y : A} → Some x ≡ Some y → x ≡ y
 some-same h = cc
 

@@ -9,6 +9,7 @@ use Rattle.std.specs.Str.Parse.{ParsesUnsigned, digits_value}
 use Rattle.gr_cli.specs.Numbers.{contains, is_numeral, number_in}
 use Rattle.gr_cli.specs.declared.numbers.Numbers.{Numbers}
 
+-- Decimal digits by their class are those that `parse` takes.
 pub own : IsNumeralModel (λ ds. list_all is_ascii_digit ds ≡ true) (digits_value 10)
 own = numerals_by_value _ (search rules)
 
