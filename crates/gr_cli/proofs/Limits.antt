@@ -1,5 +1,5 @@
 -- Each value is one that its option takes.
-use Rattle.std.proofs.Common.{◌≡◌, ◌≤◌, ◌&&◌, refl, ap, subst, ℕ, nat_le, Bool, true, false, List, Option, Some, None, arith, option_and_then, cond, codes}
+use Rattle.std.proofs.Common.{◌≡◌, ◌&&◌, refl, subst, ℕ, nat_le, Bool, true, false, List, Option, Some, None, arith, cond, codes}
 use Rattle.std.proofs.lemmas.Bool.{leb-true}
 use Rattle.std.specs.Str.Parse.{digits_value}
 use Rattle.clap.proofs.WalkLemmas.{both}
@@ -12,6 +12,7 @@ use Rattle.gr_cli.specs.Values.{command_of, given, kind_of, number_of, values_of
 use Rattle.gr_cli.specs.declared.numbers.Numbers.{Numbers}
 use Rattle.gr_cli.specs.declared.settings.Options.{Options}
 
+-- Equal options hold equal values.
 some-same : {A : Type 0} {x y : A} → Some x ≡ Some y → x ≡ y
 some-same h = cc
 
@@ -46,8 +47,8 @@ number-within numbers (Some t) next o default h rest = go (number_in numbers t) 
     go (Some n) one h = rest n (one n refl) h
 
 -- The values of the matches are within the limits.
-pub values_of-within : (rows : List Row) (o : Options) → values_of rows ≡ Some o → IsWithinLimits o
-values_of-within rows o h =
+pub values_are_within : (rows : List Row) (o : Options) → values_of rows ≡ Some o → IsWithinLimits o
+values_are_within rows o h =
     let word : Text → Option Text = λ name. first_of name rows in
     given-within (command_of (word (codes "command"))) _ o h (λ command h.
     number-within number.cores (word (codes "cores")) _ o (omega arith, omega arith) h (λ cores few_cores h.
@@ -71,10 +72,10 @@ values_of-within rows o h =
     })))))))))))
 
 -- So are the options of any words.
-pub options_of-within : (words : List Text) (o : Options) → options_of words ≡ Some o → IsWithinLimits o
+pub options_are_within : (words : List Text) (o : Options) → options_of words ≡ Some o → IsWithinLimits o
 unfolding options_of
-options_of-within words o = go (is_refused words)
+options_are_within words o = go (is_refused words)
   where
     go : (refused : Bool) → cond refused None (values_of (matches_of simple_command words)) ≡ Some o → IsWithinLimits o
     go true h = cc
-    go false h = values_of-within (matches_of simple_command words) o h
+    go false h = values_are_within (matches_of simple_command words) o h

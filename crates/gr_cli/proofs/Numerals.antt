@@ -1,15 +1,15 @@
 -- What `parse` says of a numeral.
-use Rattle.std.proofs.Common.{◌≡◌, ◌<◌, ◌≤◌, ◌^◌, ◌&&◌, refl, sym, ℕ, Bool, true, false, List, length, Option, Some, None, Result, Ok, Err, nat_le, arith, rules}
-use Rattle.std.proofs.lemmas.Bool.{leb-true, le-leb}
+use Rattle.std.proofs.Common.{◌≡◌, ◌<◌, ◌≤◌, ◌^◌, ◌&&◌, refl, ℕ, Bool, true, false, List, length, None, Err, nat_le, arith, rules}
+use Rattle.std.proofs.lemmas.Bool.{leb-true}
 use Rattle.std.proofs.lemmas.Str.Parse.{IsNumeralModel, numerals_by_value, parse_digits}
 use Rattle.clap.proofs.WalkLemmas.{both}
 use Rattle.std.specs.Char.{is_ascii_digit}
 use Rattle.std.specs.List.{list_all}
-use Rattle.std.specs.Result.{OkIff}
 use Rattle.std.specs.Str.Parse.{ParsesUnsigned, digits_value}
 use Rattle.gr_cli.specs.Numbers.{contains, is_numeral, number_in}
 use Rattle.gr_cli.specs.declared.numbers.Numbers.{Numbers}
 
+-- Decimal digits by their class are those that `parse` takes.
 pub own : IsNumeralModel (λ ds. list_all is_ascii_digit ds ≡ true) (digits_value 10)
 own = numerals_by_value _ (search rules)
 

@@ -42,7 +42,7 @@ seed = record { default = 1; least = 0; most = 2 ^ 64 - 1 }
 abbrev pub IsOneOf : Numbers → ℕ → Type 0
 IsOneOf numbers n = (numbers.least ≤ n) × (n ≤ numbers.most)
 
--- The text has one to twenty bytes, each of them a decimal digit.
+-- Whether the text has one to twenty bytes, each of them a decimal digit.
 abbrev pub is_numeral : Text → Bool
 is_numeral text = nat_le 1 (length text) && (nat_le (length text) 20 && list_all is_ascii_digit text)
 

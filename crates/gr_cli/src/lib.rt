@@ -3,6 +3,7 @@
 
 mod arguments;
 mod error;
+mod laws;
 mod numbers;
 mod rows;
 mod settings;
@@ -12,6 +13,7 @@ mod values;
 mod words;
 
 pub use error::OptionsError;
+pub use laws::options_are_within_limits;
 pub use rows::{accepted_rows, faulty_value_rows, refused_rows};
 pub use settings::{BenchKind, Command, Options};
 pub use words::options;

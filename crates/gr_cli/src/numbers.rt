@@ -20,48 +20,56 @@ impl Numbers {
     }
 }
 
+/// The number of cores.
 pub const CORES: Numbers = Numbers {
     default: 4,
     least: 1,
     most: 16,
 };
 
+/// The words of a block.
 pub const BLOCK: Numbers = Numbers {
     default: 8,
     least: 1,
     most: 4096,
 };
 
+/// The messages with which a packet is shipped at once.
 pub const LIMIT: Numbers = Numbers {
     default: 32,
     least: 1,
     most: 256,
 };
 
+/// The most pure steps between two actions.
 pub const STEPS: Numbers = Numbers {
     default: 1000000,
     least: 1,
     most: 1 << 40,
 };
 
+/// The most events of a core in a round.
 pub const SLICE: Numbers = Numbers {
     default: 1024,
     least: 1,
     most: 65536,
 };
 
+/// The clock of a core at which a run is ended.
 pub const EVENTS: Numbers = Numbers {
     default: 1 << 40,
     least: 1,
     most: 1 << 40,
 };
 
+/// The indices of a loop of the program that `bench` makes.
 pub const SIZE: Numbers = Numbers {
     default: 1000,
     least: 1,
     most: 100000,
 };
 
+/// The seed of that program.
 pub const SEED: Numbers = Numbers {
     default: 1,
     least: 0,

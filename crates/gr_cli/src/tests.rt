@@ -77,6 +77,7 @@ fn refuses_other_lines(rt: HostRuntime) -> Result<(), Fail> {
         "go",
         "run check",
         "run --fast",
+        "run --bl\u{f6}ck 1",
         "run --core 1",
         "run --cores",
         "run --cores 1 --cores 1",

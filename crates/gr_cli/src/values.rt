@@ -19,7 +19,7 @@ fn number_of(matches: &ArgMatches, name: &str, numbers: Numbers) -> Option<u64>
     ensures { result ≡ spec.number_of numbers (first_of name.now (rows_of (found_of matches.now))) }
 {
     match word_of(matches, name) {
-        Some(text) => number_in(text, numbers),
+        Some(word) => number_in(word, numbers),
         None => Some(numbers.default),
     }
 }
@@ -28,12 +28,10 @@ fn number_of(matches: &ArgMatches, name: &str, numbers: Numbers) -> Option<u64>
 fn is_used(matches: &ArgMatches, name: &str) -> bool
     ensures { result ≡ spec.is_used (first_of name.now (rows_of (found_of matches.now))) }
 {
-    match word_of(matches, name) {
-        Some(text) => text == "true",
-        None => false,
-    }
+    word_of(matches, name).is_some_and(|word| word == "true")
 }
 
+/// The command that is spelled so.
 fn command_named(text: &str) -> Option<Command>
     ensures { result ≡ spec.command_named text.now }
 {
@@ -46,15 +44,15 @@ fn command_named(text: &str) -> Option<Command>
     }
 }
 
+/// The command of the positional.
 fn command_of(matches: &ArgMatches) -> Option<Command>
     ensures { result ≡ spec.command_of (first_of (codes "command") (rows_of (found_of matches.now))) }
 {
-    match word_of(matches, "command") {
-        Some(text) => command_named(text),
-        None => None,
-    }
+    let word = word_of(matches, "command")?;
+    command_named(word)
 }
 
+/// The kind of program that is spelled so.
 fn kind_named(text: &str) -> Option<BenchKind>
     ensures { result ≡ spec.kind_named text.now }
 {
@@ -66,11 +64,12 @@ fn kind_named(text: &str) -> Option<BenchKind>
     }
 }
 
+/// The kind of program of the option, `None` where its word is no kind.
 fn kind_of(matches: &ArgMatches) -> Option<BenchKind>
     ensures { result ≡ spec.kind_of (first_of (codes "kind") (rows_of (found_of matches.now))) }
 {
     match word_of(matches, "kind") {
-        Some(text) => kind_named(text),
+        Some(word) => kind_named(word),
         None => Some(BenchKind::Words),
     }
 }

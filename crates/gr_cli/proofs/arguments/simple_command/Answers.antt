@@ -1,4 +1,4 @@
-use Rattle.std.proofs.Common.{◌≡◌, ◌∙◌, ap, codes, List, ℕ}
+use Rattle.std.proofs.Common.{◌∙◌, ap, codes}
 use Rattle.clap.specs.Words.{App, Text, with_rule}
 use Rattle.gr_cli.specs.Arguments.{simple_command, option, flag}
 use Rattle.gr_cli.proofs.arguments.simple_command.Goals as goal

@@ -1,4 +1,4 @@
-use Rattle.std.proofs.Common.{rules, ◌≡◌, ◌∙◌, sym}
+use Rattle.std.proofs.Common.{rules, ◌∙◌, sym}
 use Rattle.gr_cli.proofs.Numerals.{refused}
 use Rattle.gr_cli.proofs.numbers.number_in.Goals as goal
 

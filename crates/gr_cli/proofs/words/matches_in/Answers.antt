@@ -1,4 +1,4 @@
-use Rattle.std.proofs.Common.{◌≡◌, ◌∙◌, map, string_bytes, sym}
+use Rattle.std.proofs.Common.{◌∙◌, sym}
 use Rattle.clap.specs.Words.{app_of}
 use Rattle.gr_cli.proofs.Commands.{refused, taken}
 use Rattle.gr_cli.proofs.words.matches_in.Goals as goal
