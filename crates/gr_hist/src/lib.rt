@@ -1,0 +1,4 @@
+//! Version 1 of the history text: a history with the names of its program, written and read.
+#![tactic(auto)]
+
+pub mod text;
