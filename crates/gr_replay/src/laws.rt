@@ -1,0 +1,12 @@
+//! Laws of what is said of history texts. These functions do nothing: their contracts are what they tell.
+ghost use Rattle.gr_replay.specs.Laws.{JudgedOnce, LegalIsJudged};
+
+/// A history text has one verdict.
+pub fn judged_once()
+    ensures { JudgedOnce }
+{}
+
+/// Lines that name a legal history are judged legal, and complete where it is.
+pub fn legal_is_judged()
+    ensures { LegalIsJudged }
+{}
