@@ -1,3 +1,4 @@
 pub mod Numberings
 pub mod Verdicts
 pub mod Progress
+pub mod Dividing

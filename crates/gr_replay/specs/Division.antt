@@ -1,6 +1,7 @@
 -- How a source is divided into a program text and a history text: by its first line that is exactly `---`.
-use Rattle.std.specs.Prelude.{ℕ, ◌+◌, ◌==◌, List, [], ◌∷◌, ◌++◌, map, take, drop, Option, position, codes}
+use Rattle.std.specs.Prelude.{ℕ, ◌+◌, ◌==◌, List, [], ◌∷◌, ◌++◌, take, drop, Option, position, codes}
 use Rattle.std.specs.Option.{option_map_or}
+use Rattle.std.specs.List.{slice_split, join_with_byte}
 use Rattle.std.specs.Str.{bytes_eq}
 
 -- The lines of a source: what stands between its line feeds.
