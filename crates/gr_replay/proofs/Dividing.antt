@@ -1,16 +1,16 @@
 -- How a source is divided line by line.
 use Rattle.std.proofs.Common.{◌≡◌, ℕ, zero, suc, ◌+◌, ◌-◌, ◌≤◌, ◌<◌, ◌==◌, Bool, true, false, not, cond, List, [], ◌∷◌, ◌++◌, length, map, take, drop, get_or, Option, Some, None, refl, sym, ap, subst, append_assoc, append-nil, add-one, ⊎_elim, ◌∙◌, eqb-true, arith}
 use Rattle.std.specs.Prelude.{position, codes}
-use Rattle.std.specs.List.{position_from, position_or_len, slice_split, onto_first, join_with_byte}
+use Rattle.std.specs.List.{position_or_len, slice_split, onto_first, join_with_byte}
 use Rattle.std.specs.Option.{option_map, option_map_or}
 use Rattle.std.specs.Str.{bytes_eq}
 use Rattle.std.proofs.Math.Seq.{take-add, take-suc}
-use Rattle.std.proofs.lemmas.Iterator.Adapters.{position_from-zero}
 use Rattle.std.proofs.lemmas.List.{drop-drop, drop_all, take_all, length-drop}
 use Rattle.std.proofs.lemmas.List.Splits.{join_with_byte-slice_split, slice_split_first}
 use Rattle.std.proofs.lemmas.List.Sums.{passes_at_first, prefix_len-le-length}
 use Rattle.std.proofs.lemmas.Bool.{cases_lt}
-use Rattle.gr_replay.specs.Division.{lines_of, dividing_line, closed, program_part, history_part}
+use Rattle.gr_replay.proofs.Positions.{position_hit, position_miss}
+use Rattle.gr_replay.specs.Division.{lines_of, closed, program_part, history_part}
 
 abbrev is_divider : List ℕ → Bool
 is_divider = bytes_eq (codes "---")
@@ -29,25 +29,6 @@ history_of lines = option_map_or (λ k. join_with_byte 10 (drop (k + 1) lines)) 
 -- The program text of a source of which some stands before this rest.
 abbrev pub program_after : List ℕ → List ℕ → List ℕ → List ℕ
 program_after before rest source = program_of before (lines_of rest) source
-
-position_later : (p : List ℕ → Bool) (k : ℕ) (xs : List (List ℕ)) → position_from p (k + 1) xs ≡ option_map (λ j. j + 1) (position_from p k xs)
-position_later p k [] = refl
-position_later p k (x ∷ xs) = by (p x) (position_later p (k + 1) xs)
-  where
-    by : (b : Bool) → position_from p (k + 1 + 1) xs ≡ option_map (λ j. j + 1) (position_from p (k + 1) xs)
-        → cond b (Some (k + 1)) (position_from p (k + 1 + 1) xs) ≡ option_map (λ j. j + 1) (cond b (Some k) (position_from p (k + 1) xs))
-    by true others = refl
-    by false others = others
-
-position_hit : (p : List ℕ → Bool) (x : List ℕ) (xs : List (List ℕ)) → p x ≡ true → position p (x ∷ xs) ≡ Some 0
-position_hit p x xs h = position_from-zero p (x ∷ xs) ∙ ap (λ (b : Bool). cond b (Some 0) (position_from p 1 xs)) h
-
-position_miss : (p : List ℕ → Bool) (x : List ℕ) (xs : List (List ℕ)) → p x ≡ false → position p (x ∷ xs) ≡ option_map (λ j. j + 1) (position p xs)
-position_miss p x xs h =
-    position_from-zero p (x ∷ xs)
-    ∙ ap (λ (b : Bool). cond b (Some 0) (position_from p 1 xs)) h
-    ∙ position_later p 0 xs
-    ∙ ap (option_map (λ j. j + 1)) (sym (position_from-zero p xs))
 
 program_hit : (before line : List ℕ) (ls : List (List ℕ)) (source : List ℕ) → is_divider line ≡ true → program_of before (line ∷ ls) source ≡ before
 program_hit before line ls source h = ap (λ (o : Option ℕ). option_map_or (λ k. before ++ closed (take k (line ∷ ls))) o source) (position_hit is_divider line ls h) ∙ append-nil before
@@ -199,15 +180,15 @@ further source start n line others knows =
     let more : first_len rest < length rest = omega (arith, prefix_len-le-length (λ (b : ℕ). not (b == 10)) rest) in
     let taken : take (start + (n + 1)) source ≡ take start source ++ take (first_len rest + 1) rest =
           take-add start (n + 1) source ∙ ap (λ (m : ℕ). take start source ++ take (m + 1) rest) line.len in
-    let others : drop (first_len rest + 1) rest ≡ drop (start + (n + 1)) source = ap (λ (m : ℕ). drop (m + 1) rest) (sym line.len) ∙ drop-drop (n + 1) start source in
+    let behind : drop (first_len rest + 1) rest ≡ drop (start + (n + 1)) source = ap (λ (m : ℕ). drop (m + 1) rest) (sym line.len) ∙ drop-drop (n + 1) start source in
     record {
       inside = omega (arith, line.len, length-drop start source);
       program =
         knows.program
         ∙ other_program (take start source) rest source more line.test
         ∙ ap (λ (l : List ℕ). program_after l (drop (first_len rest + 1) rest) source) (sym taken)
-        ∙ ap (λ (l : List ℕ). program_after (take (start + (n + 1)) source) l source) others;
-      history = knows.history ∙ other_history rest more line.test ∙ ap history_part others;
+        ∙ ap (λ (l : List ℕ). program_after (take (start + (n + 1)) source) l source) behind;
+      history = knows.history ∙ other_history rest more line.test ∙ ap history_part behind;
     }
 
 -- What is known before the first line.
