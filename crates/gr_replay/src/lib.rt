@@ -6,3 +6,5 @@ pub mod entries;
 pub mod laws;
 pub mod names;
 pub mod replay;
+#[cfg(test)]
+mod replay_tests;

@@ -19,7 +19,7 @@ pub struct Replayed {
 }
 
 /// Why a history text isn't legal, or why nothing is said of it.
-#[derive(Debug, Drop, Error)]
+#[derive(Clone, Copy, Debug, PartialEq, Eq, Error)]
 pub enum ReplayError {
     /// The first entry that isn't legal where it stands; entries count from 1, and the header is none.
     #[error("history not legal at entry {entry}")]
