@@ -1,7 +1,7 @@
 -- How a source is divided line by line.
-use Rattle.std.proofs.Common.{◌≡◌, ℕ, zero, suc, ◌+◌, ◌-◌, ◌≤◌, ◌<◌, ◌==◌, Bool, true, false, not, cond, List, [], ◌∷◌, ◌++◌, length, map, take, drop, get_or, Option, Some, None, refl, sym, ap, subst, append_assoc, append-nil, add-one, ⊎_elim, ◌∙◌, eqb-true, arith}
+use Rattle.std.proofs.Common.{◌≡◌, ℕ, suc, ◌+◌, ◌-◌, ◌≤◌, ◌<◌, ◌==◌, Bool, true, false, not, cond, List, [], ◌∷◌, ◌++◌, length, take, drop, Option, Some, None, refl, sym, ap, subst, append_assoc, append-nil, add-one, ⊎_elim, ◌∙◌, eqb-true, arith}
 use Rattle.std.specs.Prelude.{position, codes}
-use Rattle.std.specs.List.{position_or_len, slice_split, onto_first, join_with_byte}
+use Rattle.std.specs.List.{position_or_len, onto_first, join_with_byte}
 use Rattle.std.specs.Option.{option_map, option_map_or}
 use Rattle.std.specs.Str.{bytes_eq}
 use Rattle.std.proofs.Math.Seq.{take-add, take-suc}
@@ -179,15 +179,15 @@ further source start n line others knows =
     let apart : ¬ (first_len rest ≡ length rest) = λ same. others (line.len ∙ same ∙ ap length (sym (all_left source start))) in
     let more : first_len rest < length rest = omega (arith, prefix_len-le-length (λ (b : ℕ). not (b == 10)) rest) in
     let taken : take (start + (n + 1)) source ≡ take start source ++ take (first_len rest + 1) rest =
-          take-add start (n + 1) source ∙ ap (λ (m : ℕ). take start source ++ take (m + 1) rest) line.len in
+    take-add start (n + 1) source ∙ ap (λ (m : ℕ). take start source ++ take (m + 1) rest) line.len in
     let behind : drop (first_len rest + 1) rest ≡ drop (start + (n + 1)) source = ap (λ (m : ℕ). drop (m + 1) rest) (sym line.len) ∙ drop-drop (n + 1) start source in
     record {
       inside = omega (arith, line.len, length-drop start source);
       program =
-        knows.program
-        ∙ other_program (take start source) rest source more line.test
-        ∙ ap (λ (l : List ℕ). program_after l (drop (first_len rest + 1) rest) source) (sym taken)
-        ∙ ap (λ (l : List ℕ). program_after (take (start + (n + 1)) source) l source) behind;
+          knows.program
+          ∙ other_program (take start source) rest source more line.test
+          ∙ ap (λ (l : List ℕ). program_after l (drop (first_len rest + 1) rest) source) (sym taken)
+          ∙ ap (λ (l : List ℕ). program_after (take (start + (n + 1)) source) l source) behind;
       history = knows.history ∙ other_history rest more line.test ∙ ap history_part behind;
     }
 

@@ -1,11 +1,9 @@
 -- What is written of a legal history names it again.
-use Rattle.std.proofs.Common.{◌≡◌, ℕ, zero, suc, ◌+◌, ◌==◌, Bool, true, false, ◌&&◌, ◌||◌, List, [], ◌∷◌, map, take, slice_get, Option, Some, None, unwrap_or, if◌then◌else◌, refl, sym, ap, ap₂, subst, codes, true≢false, eqb-true, ◌∙◌}
-use Rattle.std.specs.Prelude.{All, position}
+use Rattle.std.proofs.Common.{◌≡◌, ℕ, zero, suc, ◌==◌, Bool, true, false, ◌&&◌, ◌||◌, List, [], ◌∷◌, map, take, slice_get, Option, Some, None, unwrap_or, if◌then◌else◌, refl, sym, ap, ap₂, subst, codes, true≢false, eqb-true, ◌∙◌}
 use Rattle.std.specs.Option.{option_and_then, option_map}
 use Rattle.std.specs.Str.{bytes_eq}
 use Rattle.std.specs.FinMap as fin
 use Rattle.std.proofs.lemmas.List.Elements.{All-head, All-tail}
-use Rattle.std.proofs.lemmas.Slice.Eq.{bytes_eq-Decides}
 use Rattle.gr_lang.specs.declared.syntax.Program.{Program}
 use Rattle.gr_lang.specs.declared.action.Action.{Action}
 use Rattle.gr_lang.specs.declared.action.Action.TheVariants as a
@@ -17,16 +15,13 @@ use Rattle.gr_lang.specs.declared.action.Reply.{Reply}
 use Rattle.gr_lang.specs.declared.action.TaskId.{TaskId}
 use Rattle.gr_lang.specs.declared.operation.Operation.{Operation}
 use Rattle.gr_lang.specs.declared.operation.Operation.TheVariants as o
-use Rattle.gr_lang.specs.Accepted.{IsAccepted}
 use Rattle.gr_lang.specs.Fields.{same_op, same_reply}
 use Rattle.gr_lang.specs.Histories.{after}
 use Rattle.gr_lang.specs.Names.{has}
 use Rattle.gr_lang.specs.Objects.{Object, Objects, array, keys, pairs, line, call, heap_number, on_word_at, insert_in, remove_in, has_in, put_in, erase_in, push_in, alloc_at, start_for}
 use Rattle.gr_lang.specs.Openings.{TaskText, object_names, tasks_of}
-use Rattle.gr_lang.specs.Operations.{result_count}
 use Rattle.gr_lang.specs.States.{State, Task, is_going}
 use Rattle.gr_lang.specs.Steps.{step, call_step, called, if_going, when}
-use Rattle.gr_hist.specs.declared.text.NamedEntry.{NamedEntry}
 use Rattle.gr_hist.specs.Grammar.{HasNames}
 use Rattle.gr_hist.specs.Names.{is_name, is_object_name}
 use Rattle.gr_hist.specs.Naming.{IsNamable, call_on, name_at, named, named_call, names_of, object_name, reply_words}
@@ -152,6 +147,7 @@ module _ (p : Program) (N L : ℕ) where
       going : (t : Task) (b : Bool) → (if b then call_step p L S id t t.action op w else None) ≡ Some U → w ≡ (call op S.objects).1
       going t true e = call_due S U id t t.action op w e
       going t false e = absurd (cc)
+
       by : (found : Option Task) → option_and_then (if_going (λ t. call_step p L S id t t.action op w)) found ≡ Some U → w ≡ (call op S.objects).1
       by None e = absurd (cc)
       by (Some t) e = going t (is_going t.mode) e

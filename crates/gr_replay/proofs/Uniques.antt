@@ -145,9 +145,11 @@ one_name before item said names is_said new rest = record { fresh = fresh; once 
   where
     apart : (k : ℕ) (name : List ℕ) → slice_get names k ≡ Some name → bytes_eq name said.name ≡ false
     apart k name at = not_it said name (first_named before name) (subst (λ (o : Option Declaration). is_some (first_of o name (first_named before name)) ≡ false) is_said (rest.fresh k name at))
+
     fresh : IsFresh before (said.name ∷ names)
     fresh zero name at = let same : said.name ≡ name = cc in subst (λ (n : List ℕ). is_some (first_named before n) ≡ false) same new
     fresh (suc k) name at = not_before (declaration item) name (first_named before name) (rest.fresh k name at)
+
     once : IsOnce (said.name ∷ names)
     once zero name at = let same : name ≡ said.name = cc in position_hit (bytes_eq name) said.name names ((bytes_eq-Decides name said.name).1 same)
     once (suc k) name at = position_miss (bytes_eq name) said.name names (apart k name at) ∙ ap (option_map (λ j. j + 1)) (rest.once k name at) ∙ ap (λ (j : ℕ). Some j) (add-one k)
@@ -162,6 +164,7 @@ names_in m kind before (item ∷ more) h =
         → Names before (cons_option (if b then Some said.name else None) (filter_map (name_of kind) more))
     chosen said true is_said new rest = one_name before item said (filter_map (name_of kind) more) is_said new rest
     chosen said false is_said new rest = more_names before item (filter_map (name_of kind) more) rest
+
     by : (o : Option Declaration) → declaration item ≡ o → IsNewAfter before o → Names (item ∷ before) (filter_map (name_of kind) more)
         → Names before (cons_option (option_and_then (name_if kind) o) (filter_map (name_of kind) more))
     by None is_said new rest = more_names before item (filter_map (name_of kind) more) rest

@@ -1,5 +1,5 @@
 -- What is said of a history text, found line by line, and why nothing else is said.
-use Rattle.std.proofs.Common.{◌≡◌, ℕ, ◌+◌, Bool, List, [], ◌∷◌, ◌++◌, length, map, Option, Some, None, refl, sym, ap, subst, append_assoc, append-nil, ◌∙◌, arith}
+use Rattle.std.proofs.Common.{◌≡◌, ℕ, ◌+◌, List, [], ◌∷◌, ◌++◌, length, map, Option, Some, None, refl, sym, ap, subst, append_assoc, append-nil, ◌∙◌, arith}
 use Rattle.std.specs.Option.{option_and_then, option_map_or}
 use Rattle.std.proofs.lemmas.List.{map-append, length-append}
 use Rattle.gr_lang.specs.declared.syntax.Program.{Program}
@@ -55,7 +55,7 @@ module _ (p : Program) (N L : ℕ) where
       let number : n + 1 + (length front + 1) ≡ n + (length (f ∷ front) + 1) = omega arith in
       subst (λ (o : Option Entry). option_map_or (λ U. verdict_from p N L (n + 1) U (front ++ line ∷ rest)) (option_and_then (step p N L S) o) (not_legal (n + 1)) ≡ not_legal (n + (length (f ∷ front) + 1))) (sym head)
       (step_case (λ U. verdict_from p N L (n + 1) U (front ++ line ∷ rest)) (λ U. after p N L U xs) (not_legal (n + 1)) (not_legal (n + (length (f ∷ front) + 1))) T (step p N L S x) is_after
-       (λ U h. said_of_no_step front xs (n + 1) U T line rest tail h no_step ∙ ap not_legal number))
+      (λ U h. said_of_no_step front xs (n + 1) U T line rest tail h no_step ∙ ap not_legal number))
 
   -- Nothing else is said.
   pub said : (lines : List NamedEntry) (v : Verdict) → Judged p N L lines v → v ≡ verdict_of p N L lines
@@ -81,7 +81,7 @@ module _ (p : Program) (N L : ℕ) where
       let longer : length (front ++ line ∷ []) ≡ length front + 1 = length-append front (line ∷ []) in
       subst (λ (n : ℕ). Judged p N L (front ++ line ∷ rest) (verdict_from p N L n T rest)) longer
       (subst (λ (ls : List NamedEntry). Judged p N L ls (verdict_from p N L (length (front ++ line ∷ [])) T rest)) (append_assoc front (line ∷ []) rest)
-       (others x T (one_more front line history x names found) reached))
+      (others x T (one_more front line history x names found) reached))
 
   judged_from : (lines front : List NamedEntry) (history : List Entry) (S : State) → Names p front history → final p N L history ≡ Some S → Judged p N L (front ++ lines) (verdict_from p N L (length front) S lines)
   judged_from [] front history S names is_after = is_legal history S (subst (λ (ls : List NamedEntry). Names p ls history) (sym (append-nil front)) names) is_after

@@ -64,11 +64,8 @@ fn op_of(operation: Operation, object: u64, reducer: u64, numbers: &[u64]) -> Op
     let key = word_at(numbers, 0);
     let word = word_at(numbers, 1);
     match operation {
-        Operation::Read
-        | Operation::Write
-        | Operation::Add
-        | Operation::Cas
-        | Operation::Reduce => word_op(operation, object, reducer, numbers),
+        Operation::Read | Operation::Write | Operation::Add | Operation::Cas | Operation::Reduce =>
+            word_op(operation, object, reducer, numbers),
         Operation::Insert => Op::Insert { object, key },
         Operation::Remove => Op::Remove { object, key },
         Operation::Has => Op::Has { object, key },

@@ -106,7 +106,11 @@ fn replayed(alloc: Global, kinds: &str) -> Result<Replayed, ReplayError> {
 #[test]
 fn lines_are_replayed(rt: HostRuntime) -> Result<(), Fail> {
     for (kinds, complete) in [("", false), ("p", false), ("pe", false), ("peo", true)] {
-        assert_eq!(rt; replayed(rt.alloc(), kinds), Ok(Replayed { complete }), "{kinds}");
+        assert_eq!(rt;
+            replayed(rt.alloc(), kinds),
+            Ok(Replayed { complete }),
+            "{kinds}"
+        );
     }
     for (kinds, entry) in [
         ("q", 1),

@@ -1,4 +1,4 @@
-use Rattle.std.proofs.Common.{◌≡◌, ◌∙◌, sym, Some}
+use Rattle.std.proofs.Common.{◌∙◌, sym, Some}
 use Rattle.std.proofs.lemmas.Map.Text.{hash_map_updates_str}
 use Rattle.gr_replay.specs.NamesView.{number_of}
 use Rattle.gr_replay.proofs.Numberings.{added}

@@ -8,7 +8,7 @@ pub returns-in-Err : goal.returns-in-Err
 returns-in-Err c =
     subst (SaysError c.args.program.now c.args.text.now.cores c.args.text.now.steps c.args.text.now.lines) (sym c.replay_error.ensures)
     (says c.args.program.now c.args.text.now.cores c.args.text.now.steps c.args.text.now.lines (c.loop-at.at + 1) c.in-Err.error
-     (λ e. stops c.as_slice-lines.result.now c.loop-at.at c.index-lines-at.result c.loop-at-test.true c.index-lines-at.is c.loop-at.plain _ c.loop-at.invariant.rest (c.advance-taken.ensures.not_legal (c.in-Err.is ∙ ap Err e))))
+    (λ e. stops c.as_slice-lines.result.now c.loop-at.at c.index-lines-at.result c.loop-at-test.true c.index-lines-at.is c.loop-at.plain _ c.loop-at.invariant.rest (c.advance-taken.ensures.not_legal (c.in-Err.is ∙ ap Err e))))
 
 pub loop-at-preserved : goal.loop-at-preserved
 loop-at-preserved c =
