@@ -2,3 +2,4 @@ pub mod Names
 pub mod Spelling
 pub mod Grammar
 pub mod Naming
+pub mod Reading
