@@ -78,6 +78,7 @@ leads_tells (b ∷ c ∷ bs) e = (omega arith, λ z. let bad : not true ≡ true
 
 -- What is taken is written so.
 pub number_found : (bs : Bytes) (n : ℕ) → number_of bs ≡ Some n → (bs ≡ decimal n) × (n < 2 ^ 64)
+unfolding number_of
 number_found bs n e = by (leads bs) refl e
   where
     by : (t : Bool) → leads bs ≡ t → cond t (digits_after 0 bs) None ≡ Some n → (bs ≡ decimal n) × (n < 2 ^ 64)
@@ -98,6 +99,7 @@ leads_decimal (suc n) h = leads_is (decimal (suc n)) (decimal_is_IsNumeral (suc 
 
 -- What is written is taken.
 pub number_only : (n : ℕ) → n < 2 ^ 64 → number_of (decimal n) ≡ Some n
+unfolding number_of
 number_only n h =
     let d = decimal_is_IsNumeral n h in
     let small : digits_value 10 (decimal n) < 2 ^ 64 = omega (arith, d.1) in

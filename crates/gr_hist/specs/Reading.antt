@@ -1,5 +1,5 @@
 -- What each function of the reader answers.
-use Rattle.std.specs.Prelude.{ℕ, ◌+◌, ◌-◌, ◌*◌, ◌^◌, ◌≡◌, ◌≢◌, ◌&&◌, ◌==◌, Bool, true, false, not, if◌then◌else◌, nat_le, nat_lt, List, [], ◌∷◌, ◌++◌, length, take, drop, codes, Option, Some, None, option_map, option_and_then}
+use Rattle.std.specs.Prelude.{ℕ, ◌+◌, ◌-◌, ◌*◌, ◌^◌, ◌≡◌, ◌≢◌, ◌&&◌, ◌==◌, Bool, true, false, not, if◌then◌else◌, nat_le, nat_lt, List, [], ◌∷◌, ◌++◌, length, take, drop, codes, Option, Some, None, Result, Ok, Err, option_map, option_and_then}
 use Rattle.std.specs.Char.{is_ascii_digit}
 use Rattle.std.specs.Str.{bytes_eq}
 use Rattle.std.specs.List.{slice_split}
@@ -18,10 +18,11 @@ use Rattle.gr_hist.specs.Names.{Bytes, is_name, is_object_name}
 use Rattle.gr_hist.specs.Spelling.{header_parts, line_of, parts_of}
 use Rattle.gr_hist.specs.Grammar.{IsEntry, IsHeader}
 
--- The value isn't there where the line is bad. Want of memory says nothing of it.
-abbrev pub IsBad : {A : Type 0} → Option A → LineError → Type 0
-IsBad o error.Bad = o ≡ None
-IsBad o error.OutOfMemory = Unit {0}
+-- The answer is this value, or `Bad` where there is none. Want of memory says nothing of it.
+abbrev pub Gives : {A : Type 0} → Option A → Result A LineError → Type 0
+Gives o (Ok x) = o ≡ Some x
+Gives o (Err error.Bad) = o ≡ None
+Gives o (Err error.OutOfMemory) = Unit {0}
 
 -- Numbers.
 
@@ -41,7 +42,7 @@ leads (b ∷ []) = true
 leads (b ∷ c ∷ bytes) = not (b == 48)
 
 -- The number that the bytes write.
-abbrev pub number_of : Bytes → Option ℕ
+unfoldable pub number_of : Bytes → Option ℕ
 number_of bytes = if leads bytes then digits_after 0 bytes else None
 
 -- A number in front of those behind it.
@@ -116,12 +117,16 @@ reply_of m [] = if m == 0 then Some [] else None
 reply_of m (sign ∷ ps) = if m == 0 then None else (if bytes_eq sign (codes "=") then counted_of m ps else None)
 
 -- So many numbers, then so many result words.
-abbrev pub tail_of : ℕ → ℕ → List Bytes → Option (List ℕ × List ℕ)
-tail_of n m ps = option_and_then (λ ns. option_map (λ ws. (ns, ws)) (reply_of m (drop n ps))) (counted_of n (take n ps))
+abbrev pub tail_for : ℕ → ℕ → List Bytes → Option (List ℕ × List ℕ)
+tail_for n m ps = option_and_then (λ ns. option_map (λ ws. (ns, ws)) (reply_of m (drop n ps))) (counted_of n (take n ps))
+
+-- The numbers of an operation, and its result words.
+abbrev pub tail_of : Operation → List Bytes → Option (List ℕ × List ℕ)
+tail_of op ps = tail_for (argument_count op) (result_count op) ps
 
 -- A call whose reducer is known, if there is one.
 abbrev pub call_with : TaskId → Bytes → Operation → Option ℕ → List Bytes → Option NamedEntry
-call_with task object op reducer ps = option_map (λ t. entry.Call task object op reducer t.0 t.1) (tail_of (argument_count op) (result_count op) ps)
+call_with task object op reducer ps = option_map (λ t. entry.Call task object op reducer t.0 t.1) (tail_of op ps)
 
 -- A call whose reducer stands first.
 abbrev pub reducing_of : TaskId → Bytes → Operation → List Bytes → Option NamedEntry
@@ -129,16 +134,22 @@ reducing_of task object op [] = None
 reducing_of task object op (p ∷ ps) = option_and_then (λ k. call_with task object op (Some k) ps) (reducer_of p)
 
 -- A call.
-abbrev pub call_of : TaskId → Bytes → Operation → List Bytes → Option NamedEntry
+unfoldable pub call_of : TaskId → Bytes → Operation → List Bytes → Option NamedEntry
 call_of task bytes op ps = option_and_then (λ object. if takes_reducer op then reducing_of task object op ps else call_with task object op None ps) (object_name_of bytes)
 
 -- Tasks that start.
 
+-- The arguments, and the new task.
+unfoldable pub args_with : List Bytes → List Bytes → Option (List ℕ × TaskId)
+args_with ps last = option_and_then (λ args. option_map (λ child. (args, child)) (child_of last)) (numbers_of ps)
+
+-- The arguments, and the new task, which the last two fields name.
+unfoldable pub args_of : List Bytes → Option (List ℕ × TaskId)
+args_of ps = if nat_lt (length ps) 2 then None else args_with (take (length ps - 2) ps) (drop (length ps - 2) ps)
+
 -- A start whose way is known: the target, its arguments and the new task.
-abbrev pub start_of : TaskId → How → Bytes → List Bytes → Option NamedEntry
-start_of task way target ps = if nat_lt (length ps) 2 then None else
-    option_and_then (λ name. option_and_then (λ args. option_map (λ child. entry.Spawn task way name args child)
-    (child_of (drop (length ps - 2) ps))) (numbers_of (take (length ps - 2) ps))) (name_of target)
+unfoldable pub start_of : TaskId → How → Bytes → List Bytes → Option NamedEntry
+start_of task way target ps = option_and_then (λ name. option_map (λ a. entry.Spawn task way name a.0 a.1) (args_of ps)) (name_of target)
 
 -- A start at a core.
 abbrev pub start_at : TaskId → List Bytes → Option NamedEntry
@@ -146,25 +157,29 @@ start_at task (core ∷ target ∷ ps) = option_and_then (λ k. start_of task (h
 start_at task _ = None
 
 -- What stands behind `spawn`.
-abbrev pub spawn_of : TaskId → List Bytes → Option NamedEntry
+unfoldable pub spawn_of : TaskId → List Bytes → Option NamedEntry
 spawn_of task [] = None
 spawn_of task (p ∷ ps) = if bytes_eq p (codes "at") then start_at task ps else start_of task how.Here p ps
 
 -- What stands behind `offer`.
-abbrev pub offer_of : TaskId → List Bytes → Option NamedEntry
+unfoldable pub offer_of : TaskId → List Bytes → Option NamedEntry
 offer_of task [] = None
 offer_of task (target ∷ ps) = start_of task how.Offer target ps
 
 -- Loops.
 
--- A loop whose range is known.
-abbrev pub loop_over : TaskId → ℕ → ℕ → List Bytes → Option NamedEntry
-loop_over task lo hi (grain ∷ target ∷ ps) = option_and_then (λ g. option_and_then (λ name. option_map (λ args. entry.Loop task lo hi g name args) (numbers_of ps)) (name_of target)) (number_of grain)
+-- A loop whose range is known: its grain, its target and the arguments.
+unfoldable pub loop_with : TaskId → ℕ → ℕ → Bytes → Bytes → List Bytes → Option NamedEntry
+loop_with task lo hi grain target ps = option_and_then (λ g. option_and_then (λ name. option_map (λ args. entry.Loop task lo hi g name args) (numbers_of ps)) (name_of target)) (number_of grain)
+
+-- A loop whose range is still to be read.
+unfoldable pub loop_over : TaskId → Bytes → Bytes → List Bytes → Option NamedEntry
+loop_over task lo hi (grain ∷ target ∷ ps) = option_and_then (λ from. option_and_then (λ to. loop_with task from to grain target ps) (number_of hi)) (number_of lo)
 loop_over task lo hi _ = None
 
 -- What stands behind `forall`.
-abbrev pub loop_of : TaskId → List Bytes → Option NamedEntry
-loop_of task (lo ∷ hi ∷ sign ∷ ps) = if bytes_eq sign (codes "grain") then option_and_then (λ from. option_and_then (λ to. loop_over task from to ps) (number_of hi)) (number_of lo) else None
+unfoldable pub loop_of : TaskId → List Bytes → Option NamedEntry
+loop_of task (lo ∷ hi ∷ sign ∷ ps) = if bytes_eq sign (codes "grain") then loop_over task lo hi ps else None
 loop_of task _ = None
 
 -- Entries.
@@ -193,7 +208,7 @@ abbrev pub begin_of : TaskId → Bytes → List Bytes → Option NamedEntry
 begin_of task index ps = option_and_then (λ k. option_map (λ child. entry.Begin task k child) (child_of ps)) (number_of index)
 
 -- An entry of some words that is no call.
-abbrev pub mark_of : TaskId → Bytes → Bytes → List Bytes → Option NamedEntry
+unfoldable pub mark_of : TaskId → Bytes → Bytes → List Bytes → Option NamedEntry
 mark_of task word p ps = if bytes_eq word (codes "trap") then trap_entry task p ps else (if bytes_eq word (codes "begin") then begin_of task p ps else None)
 
 -- A call where an operation's word follows.
@@ -202,7 +217,7 @@ by_operation (Some op) task word p ps = call_of task word op ps
 by_operation None task word p ps = mark_of task word p ps
 
 -- An entry whose first word is no keyword.
-abbrev pub other_of : TaskId → Bytes → List Bytes → Option NamedEntry
+unfoldable pub other_of : TaskId → Bytes → List Bytes → Option NamedEntry
 other_of task word [] = end_of task word
 other_of task word (p ∷ ps) = by_operation (operation_of p) task word p ps
 

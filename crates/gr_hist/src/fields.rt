@@ -2,7 +2,7 @@
 ghost use Rattle.std.specs.Prelude.{◌≡◌, ◌==◌, map, not, option_map, IfOk, MatchResult, Some};
 ghost use Rattle.std.specs.List.{prefix_len};
 ghost use Rattle.std.specs.Str.{bytes_eq};
-ghost use Rattle.gr_hist.specs.Reading.{IsBad, child_of, counted_of, cut_at, digit_after, digits_after, id_of, leads, number_of, numbers_of, parts_in};
+ghost use Rattle.gr_hist.specs.Reading.{Gives, child_of, counted_of, cut_at, digit_after, digits_after, id_of, leads, number_of, numbers_of, parts_in};
 
 use gr_lang::action::TaskId;
 use gr_lang::lists::Words;
@@ -68,6 +68,7 @@ fn leads(bytes: &[u8]) -> bool
     }
 }
 
+#[tactic(auto, unfolding(crate::specs::Reading::number_of))]
 fn value_of(bytes: &[u8]) -> Option<u64>
     ensures { result ≡ number_of bytes.now }
 {
@@ -76,7 +77,7 @@ fn value_of(bytes: &[u8]) -> Option<u64>
 
 /// The number below 2^64 that the bytes write in decimal, without a leading 0.
 pub fn number(bytes: &[u8]) -> Result<u64, LineError>
-    ensures { MatchResult result (λ n. number_of bytes.now ≡ Some n) (IsBad (number_of bytes.now)) }
+    ensures { Gives (number_of bytes.now) result }
 {
     let value = value_of(bytes);
     match value {
@@ -105,7 +106,7 @@ pub fn cut(bytes: &[u8], stop: u8) -> Option<(&[u8], &[u8])>
 
 /// The task of that core and number.
 pub fn id(bytes: &[u8]) -> Result<TaskId, LineError>
-    ensures { MatchResult result (λ task. id_of bytes.now ≡ Some task) (IsBad (id_of bytes.now)) }
+    ensures { Gives (id_of bytes.now) result }
 {
     let halves = cut(bytes, b'.');
     match halves {
@@ -120,7 +121,7 @@ pub fn id(bytes: &[u8]) -> Result<TaskId, LineError>
 
 /// The task behind `as`.
 pub fn child(parts: &[&[u8]]) -> Result<TaskId, LineError>
-    ensures { MatchResult result (λ task. child_of (map (λ x. x.now) parts.now) ≡ Some task) (IsBad (child_of (map (λ x. x.now) parts.now))) }
+    ensures { Gives (child_of (map (λ x. x.now) parts.now)) result }
 {
     match parts {
         [sign, child] => {
@@ -144,7 +145,7 @@ pub fn parts(alloc: Global, line: &[u8]) -> Result<Vec<&[u8]>, AllocError>
 
 /// The numbers that the fields write.
 pub fn numbers(alloc: Global, parts: &[&[u8]]) -> Result<Words, LineError>
-    ensures { MatchResult result (λ words. numbers_of (map (λ x. x.now) parts.now) ≡ Some words) (IsBad (numbers_of (map (λ x. x.now) parts.now))) }
+    ensures { Gives (numbers_of (map (λ x. x.now) parts.now)) result }
 {
     let mut words = Words::new(alloc);
     for part in parts {
@@ -156,7 +157,7 @@ pub fn numbers(alloc: Global, parts: &[&[u8]]) -> Result<Words, LineError>
 
 /// The numbers that so many fields write.
 pub fn counted(alloc: Global, count: usize, parts: &[&[u8]]) -> Result<Words, LineError>
-    ensures { MatchResult result (λ words. counted_of count (map (λ x. x.now) parts.now) ≡ Some words) (IsBad (counted_of count (map (λ x. x.now) parts.now))) }
+    ensures { Gives (counted_of count (map (λ x. x.now) parts.now)) result }
 {
     if parts.len() != count {
         return Err(LineError::Bad);

@@ -1,7 +1,10 @@
 //! Version 1 of the history text: a history with the names of its program, written and read.
 #![tactic(auto)]
 
+mod calls;
+mod entries;
 mod fields;
 mod names;
+mod starts;
 pub mod text;
 mod words;

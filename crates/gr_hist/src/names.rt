@@ -4,7 +4,7 @@ ghost use Rattle.std.specs.List.{list_all};
 ghost use Rattle.std.specs.Str.{IsUtf8};
 ghost use Rattle.gr_lang.specs.Names.{has};
 ghost use Rattle.gr_hist.specs.Names.{is_letter, is_name, is_object_name, is_spelled, is_word, keywords};
-ghost use Rattle.gr_hist.specs.Reading.{IsBad, name_of, object_name_of};
+ghost use Rattle.gr_hist.specs.Reading.{Gives, name_of, object_name_of};
 
 use crate::fields::{LineError, is_text};
 use gr_lang::syntax::Text;
@@ -86,7 +86,7 @@ fn letters(alloc: Global, bytes: &[u8]) -> Result<Text, AllocError>
 
 /// The name that the bytes are.
 pub fn name(alloc: Global, bytes: &[u8]) -> Result<Text, LineError>
-    ensures { MatchResult result (λ text. name_of bytes.now ≡ Some text) (IsBad (name_of bytes.now)) }
+    ensures { Gives (name_of bytes.now) result }
 {
     if !is_name(bytes) {
         return Err(LineError::Bad);
@@ -97,7 +97,7 @@ pub fn name(alloc: Global, bytes: &[u8]) -> Result<Text, LineError>
 
 /// The name of an object that the bytes are, or `heap`.
 pub fn object_name(alloc: Global, bytes: &[u8]) -> Result<Text, LineError>
-    ensures { MatchResult result (λ text. object_name_of bytes.now ≡ Some text) (IsBad (object_name_of bytes.now)) }
+    ensures { Gives (object_name_of bytes.now) result }
 {
     if !is_object_name(bytes) {
         return Err(LineError::Bad);

@@ -1,7 +1,7 @@
 //! The words of operations, reducers and traps.
 ghost use Rattle.std.specs.Prelude.{◌≡◌, ◌<◌, Some, MatchResult};
 ghost use Rattle.gr_lang.specs.Operations.{operation_of, reducer_of};
-ghost use Rattle.gr_hist.specs.Reading.{IsBad, first_with, trap_of};
+ghost use Rattle.gr_hist.specs.Reading.{Gives, first_with, trap_of};
 ghost use Rattle.gr_hist.specs.Spelling.{operation_word, reducer_word, trap_word};
 
 use crate::fields::{LineError, is_text};
@@ -106,7 +106,7 @@ fn first_reducer(reducers: &[u64], word: &[u8]) -> Option<u64>
 
 /// The number, 0 to 7, of the reducer of that word.
 pub fn reducer_named(word: &[u8]) -> Result<u64, LineError>
-    ensures { MatchResult result (λ k. reducer_of word.now ≡ Some k) (IsBad (reducer_of word.now)) }
+    ensures { Gives (reducer_of word.now) result }
 {
     let found = first_reducer(&REDUCERS, word);
     match found {
@@ -129,7 +129,7 @@ pub fn trap_word(kind: TrapKind) -> &'static str
 
 /// The trap of that word.
 pub fn trap_named(word: &[u8]) -> Result<TrapKind, LineError>
-    ensures { MatchResult result (λ kind. trap_of word.now ≡ Some kind) (IsBad (trap_of word.now)) }
+    ensures { Gives (trap_of word.now) result }
 {
     if is_text(word, "div") {
         Ok(TrapKind::Div)
