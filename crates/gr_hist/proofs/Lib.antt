@@ -3,3 +3,11 @@ pub mod Numerals
 pub mod NameBytes
 pub mod Wording
 pub mod Arguments
+pub mod Options
+pub mod Tails
+pub mod Spelled
+pub mod Starting
+pub mod Calling
+pub mod Acting
+pub mod LineBytes
+pub mod Readings

@@ -3,3 +3,4 @@ pub mod Spelling
 pub mod Grammar
 pub mod Naming
 pub mod Reading
+pub mod Lines

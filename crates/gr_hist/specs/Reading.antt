@@ -1,5 +1,5 @@
--- What each function of the reader answers.
-use Rattle.std.specs.Prelude.{ℕ, ◌+◌, ◌-◌, ◌*◌, ◌^◌, ◌≡◌, ◌≢◌, ◌&&◌, ◌==◌, Bool, true, false, not, if◌then◌else◌, nat_le, nat_lt, List, [], ◌∷◌, ◌++◌, length, take, drop, codes, Option, Some, None, Result, Ok, Err, option_map, option_and_then}
+-- What the functions that read one line answer, by the fields of the line.
+use Rattle.std.specs.Prelude.{ℕ, ◌+◌, ◌-◌, ◌*◌, ◌^◌, ◌≡◌, ◌&&◌, ◌==◌, Bool, true, false, not, if◌then◌else◌, nat_lt, List, [], ◌∷◌, ◌++◌, length, take, drop, codes, Option, Some, None, Result, Ok, Err, option_map, option_and_then}
 use Rattle.std.specs.Char.{is_ascii_digit}
 use Rattle.std.specs.Str.{bytes_eq}
 use Rattle.std.specs.List.{slice_split}
@@ -15,8 +15,6 @@ use Rattle.gr_hist.specs.declared.text.NamedEntry.TheVariants as entry
 use Rattle.gr_hist.specs.declared.fields.LineError.{LineError}
 use Rattle.gr_hist.specs.declared.fields.LineError.TheVariants as error
 use Rattle.gr_hist.specs.Names.{Bytes, is_name, is_object_name}
-use Rattle.gr_hist.specs.Spelling.{header_parts, line_of, parts_of}
-use Rattle.gr_hist.specs.Grammar.{IsEntry, IsHeader}
 
 -- The answer is this value, or `Bad` where there is none. Want of memory says nothing of it.
 abbrev pub Gives : {A : Type 0} → Option A → Result A LineError → Type 0
@@ -239,31 +237,3 @@ abbrev pub entry_of : List Bytes → Option NamedEntry
 entry_of [] = None
 entry_of (word ∷ []) = over_of word
 entry_of (p ∷ word ∷ ps) = option_and_then (λ task. act_of task word ps) (id_of p)
-
--- The header.
-
--- The numbers of a header, within their limits.
-abbrev pub limits_of : ℕ → ℕ → Option (ℕ × ℕ)
-limits_of cores steps = if nat_le 1 cores && nat_le cores 16 && nat_le 1 steps && nat_le steps (2 ^ 40) then Some (cores, steps) else None
-
--- What stands behind `history 1 cores`.
-abbrev pub sizes_of : List Bytes → Option (ℕ × ℕ)
-sizes_of (cores ∷ sign ∷ steps ∷ []) = if bytes_eq sign (codes "steps") then option_and_then (λ n. option_and_then (λ l. limits_of n l) (number_of steps)) (number_of cores) else None
-sizes_of _ = None
-
--- The numbers of cores and steps of these fields.
-abbrev pub header_of : List Bytes → Option (ℕ × ℕ)
-header_of (first ∷ version ∷ sign ∷ ps) = if bytes_eq first (codes "history") && bytes_eq version (codes "1") && bytes_eq sign (codes "cores") then sizes_of ps else None
-header_of _ = None
-
--- Lines.
-
--- The first line of the text with what stands behind it, or no line.
-abbrev pub IsLineAt : Bytes → Option (NamedEntry × Bytes) → Type 0
-IsLineAt text (Some p) = IsEntry p.0 × (text ≡ line_of (parts_of p.0) ++ p.1)
-IsLineAt text None = (e : NamedEntry) (rest : Bytes) → IsEntry e → text ≢ line_of (parts_of e) ++ rest
-
--- The header of the text with what stands behind it, or no header.
-abbrev pub IsHeaderAt : Bytes → Option ((ℕ × ℕ) × Bytes) → Type 0
-IsHeaderAt text (Some p) = IsHeader p.0.0 p.0.1 × (text ≡ line_of (header_parts p.0.0 p.0.1) ++ p.1)
-IsHeaderAt text None = (cores steps : ℕ) (rest : Bytes) → IsHeader cores steps → text ≢ line_of (header_parts cores steps) ++ rest

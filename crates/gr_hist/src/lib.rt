@@ -4,7 +4,10 @@
 mod calls;
 mod entries;
 mod fields;
+mod header;
+mod laws;
 mod names;
+mod reading;
 mod starts;
 pub mod text;
 mod words;
