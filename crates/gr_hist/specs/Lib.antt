@@ -4,3 +4,4 @@ pub mod Grammar
 pub mod Naming
 pub mod Reading
 pub mod Lines
+pub mod Written

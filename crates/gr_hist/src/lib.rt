@@ -8,6 +8,8 @@ mod header;
 mod laws;
 mod names;
 mod reading;
+mod shapes;
 mod starts;
+mod tables;
 pub mod text;
 mod words;
