@@ -8,6 +8,7 @@ use Rattle.std.specs.Str.{bytes_eq}
 abbrev pub lines_of : List ℕ → List (List ℕ)
 lines_of source = slice_split (λ b. b == 10) source
 
+-- The place of the dividing line among them, where there is one.
 abbrev pub dividing_line : List ℕ → Option ℕ
 dividing_line source = position (bytes_eq (codes "---")) (lines_of source)
 

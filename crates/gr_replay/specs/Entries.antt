@@ -55,6 +55,7 @@ is_at n.Alloc object = object == heap_number
 is_at n.Free object = object == heap_number
 is_at _ object = true
 
+-- The call of that object, where the operation takes and gives such words there.
 abbrev pub call_at : TaskId → Operation → Option ℕ → List ℕ → List ℕ → ℕ → Option Entry
 call_at id op reducer numbers words object =
     if has_counts op reducer numbers words && is_at op object then Some (e.Call id (op_of op object (unwrap_or reducer 0) numbers) (reply_of words)) else None

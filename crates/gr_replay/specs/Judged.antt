@@ -11,6 +11,7 @@ use Rattle.gr_replay.specs.Entries.{entry_in}
 use Rattle.gr_replay.specs.declared.replay.ReplayError.{ReplayError}
 use Rattle.gr_replay.specs.declared.replay.ReplayError.TheVariants as error
 
+-- Legal, and whether complete; or the number of the first line that is no step.
 pub data Verdict : Type 0 where
   legal : (is_complete : Bool) → Verdict
   not_legal : (entry : ℕ) → Verdict

@@ -22,7 +22,7 @@ pub struct Replayed {
 #[derive(Clone, Copy, Debug, PartialEq, Eq, Error)]
 pub enum ReplayError {
     /// The first entry that isn't legal where it stands; entries count from 1, and the header is none.
-    #[error("history not legal at entry {entry}")]
+    #[error("not legal at entry {entry}")]
     NotLegal { entry: u64 },
     /// There is no memory.
     #[error("out of memory")]
