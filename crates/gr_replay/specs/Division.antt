@@ -1,12 +1,14 @@
 -- How a source is divided into a program text and a history text: by its first line that is exactly `---`.
-use Rattle.std.specs.Prelude.{ℕ, ◌+◌, ◌==◌, List, [], ◌∷◌, ◌++◌, map, take, drop, Option, position, codes}
+use Rattle.std.specs.Prelude.{ℕ, ◌+◌, ◌==◌, List, [], ◌∷◌, ◌++◌, take, drop, Option, position, codes}
 use Rattle.std.specs.Option.{option_map_or}
+use Rattle.std.specs.List.{slice_split, join_with_byte}
 use Rattle.std.specs.Str.{bytes_eq}
 
 -- The lines of a source: what stands between its line feeds.
 abbrev pub lines_of : List ℕ → List (List ℕ)
 lines_of source = slice_split (λ b. b == 10) source
 
+-- The place of the dividing line among them, where there is one.
 abbrev pub dividing_line : List ℕ → Option ℕ
 dividing_line source = position (bytes_eq (codes "---")) (lines_of source)
 

@@ -1,0 +1,13 @@
+pub mod Cutting
+pub mod Numerals
+pub mod NameBytes
+pub mod Wording
+pub mod Arguments
+pub mod Options
+pub mod Tails
+pub mod Spelled
+pub mod Starting
+pub mod Calling
+pub mod Acting
+pub mod LineBytes
+pub mod Readings
