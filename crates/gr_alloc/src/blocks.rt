@@ -68,6 +68,7 @@ impl Blocks {
     pub fn alloc(&mut self, count: u64) -> Result<Option<u64>, AllocError>
         ensures place { IfOk result (λ start. start ≡ start_in self.old.heap self.old.live count) }
         ensures value { IfOk result (λ start. self.new ≡ with_block self.old start count) }
+        ensures heap { self.new.heap ≡ self.old.heap }
     {
         let found = first_start(&self.live, self.start, self.words, count);
         if let Some(start) = found {

@@ -1,4 +1,4 @@
-use Rattle.std.proofs.Common.{◌≡◌, ◌+◌, ◌≤◌, ◌∙◌, sym, ap, subst, rules}
+use Rattle.std.proofs.Common.{◌+◌, ◌≤◌, ◌∙◌, sym, ap, subst}
 use Rattle.std.specs.Prelude.{All}
 use Rattle.std.specs.FinMap as fin
 use Rattle.gr_alloc.specs.HeapBlocks.{HeapBlocks}
