@@ -101,8 +101,12 @@ pub record Shown : Type 0 where
   pub rank : ℕ
   pub bare : Layout
 
+-- A bracket where it is needed.
+abbrev pub bracket : Bool → Sign → Layout
+bracket needed g = if needed then sign g ∷ [] else []
+
 abbrev pub bracketed : Layout → Layout
-bracketed ps = sign s.LeftParen ∷ (ps ++ sign s.RightParen ∷ [])
+bracketed ps = bracket true s.LeftParen ++ (ps ++ bracket true s.RightParen)
 
 -- Where only signs below this level may stand without brackets.
 abbrev pub below : ℕ → Shown → Layout

@@ -1,5 +1,5 @@
 //! Expressions as text.
-ghost use Rattle.std.specs.Prelude.{◌≡◌, ◌++◌, OnOk, string_bytes};
+ghost use Rattle.std.specs.Prelude.{◌≡◌, ◌++◌, ◌≤◌, OnOk, string_bytes};
 ghost use Rattle.gr_parse.specs.Tok as grammar;
 ghost use Rattle.gr_print.specs.Layout as spec;
 ghost use Rattle.gr_print.specs.Layout.{bytes_of};
@@ -63,8 +63,19 @@ fn left_level(level: u8) -> u8
     }
 }
 
+/// Writes a bracket where it is needed.
+fn write_bracket(out: &mut String, needed: bool, bracket: Sign) -> Result<(), AllocError>
+    ensures { OnOk result (string_bytes out.new ≡ string_bytes out.old ++ bytes_of (spec.bracket needed bracket)) }
+{
+    if needed {
+        out.push_str(bracket.text())
+    } else {
+        Ok(())
+    }
+}
+
 /// Writes an expression where only signs below this level may stand without brackets.
-#[cycle(expr)]
+#[tactic(auto, using(crate::proofs::Texts::expressions))]
 fn write_below(out: &mut String, level: u8, value: &Expr) -> Result<(), AllocError>
     ensures { OnOk result (string_bytes out.new ≡ string_bytes out.old ++ bytes_of (spec.below level (spec.shown value.now))) }
 {
@@ -79,26 +90,15 @@ fn write_below(out: &mut String, level: u8, value: &Expr) -> Result<(), AllocErr
             write_below(out, 0, inner.get())
         }
         Expr::Two { op, left, right } => {
-            if level_of(*op) < level {
-                write_two(out, *op, left.get(), right.get())
-            } else {
-                out.push_str("(")?;
-                write_two(out, *op, left.get(), right.get())?;
-                out.push_str(")")
-            }
+            let own = level_of(*op);
+            let grouped = own >= level;
+            write_bracket(out, grouped, Sign::LeftParen)?;
+            write_below(out, left_level(own), left.get())?;
+            write!(out, " {} ", sign_of(*op).text())?;
+            write_below(out, own, right.get())?;
+            write_bracket(out, grouped, Sign::RightParen)
         }
     }
-}
-
-/// Writes two operands with a sign between them.
-#[cycle(expr)]
-fn write_two(out: &mut String, op: BinOp, left: &Expr, right: &Expr) -> Result<(), AllocError>
-    ensures { OnOk result (string_bytes out.new ≡ string_bytes out.old ++ bytes_of (spec.joined op (spec.shown left.now) (spec.shown right.now))) }
-{
-    let level = level_of(op);
-    write_below(out, left_level(level), left)?;
-    write!(out, " {} ", sign_of(op).text())?;
-    write_below(out, level, right)
 }
 
 /// Writes an expression.
