@@ -1,2 +1,7 @@
 pub mod Layouts
+pub mod PrintsExprs
+pub mod Respelled
+pub mod Samenesses
+pub mod Seen
+pub mod Subsequences
 pub mod Texts

@@ -17,8 +17,9 @@ use Rattle.gr_lang.specs.declared.syntax.Stmt.{Stmt}
 use Rattle.gr_lang.specs.declared.syntax.Stmt.TheVariants as st
 use Rattle.gr_text.specs.declared.token.Sign.TheVariants as s
 use Rattle.gr_text.specs.Spelling.{sign_bytes}
-use Rattle.gr_parse.specs.Tok.{sign_of, level_of}
-use Rattle.gr_print.specs.Layout.{Piece, Layout, Shown, piece_bytes, bytes_of, name, sign, heap, object, names, numbers, shown, below, bracket, joined, left_level, expr, exprs, args, reducer, call, right_side, let_word, assignment, start, started, range, stmt, line, lines, block, else_part, input, task}
+use Rattle.gr_parse.specs.Tok.{Tok, sign_of, level_of}
+use Rattle.gr_print.specs.Unplaced.{nowhere, unplaced_name}
+use Rattle.gr_print.specs.Layout.{Piece, Layout, Shown, token_bytes, piece_bytes, bytes_of, name, sign, object, names, numbers, shown, below, bracket, joined, left_level, expr, exprs, args, reducer, call, right_side, let_word, assignment, start, started, range, stmt, line, lines, block, else_part, input, task}
 use Rattle.gr_print.proofs.Layouts.{below_lit, below_local, below_not, below_two, below_two_grouped, stmt_set, stmt_do, stmt_print, stmt_if, stmt_while, stmt_finish, stmt_spawn, stmt_forall}
 
 pub bytes_of-append : (ps qs : Layout) → bytes_of (ps ++ qs) ≡ bytes_of ps ++ bytes_of qs
@@ -72,7 +73,7 @@ text_args xs = ap (λ (bytes : List ℕ). 40 ∷ bytes) (bytes_of-append (exprs 
 text_object : (n : Name) → piece_bytes (object n) ≡ n.text
 text_object n = by (bytes_eq n.text (codes "heap")) refl
   where
-    by : (v : Bool) → bytes_eq n.text (codes "heap") ≡ v → piece_bytes (if v then heap else name n) ≡ n.text
+    by : (v : Bool) → bytes_eq n.text (codes "heap") ≡ v → token_bytes (if v then Tok.heap nowhere else Tok.name (unplaced_name n)) ≡ n.text
     by true h = sym ((bytes_eq-Decides n.text (codes "heap")).0 h)
     by false h = refl
 

@@ -72,9 +72,12 @@ sign g = Piece.token (Tok.sign g)
 abbrev pub heap : Piece
 heap = Piece.token (Tok.heap nowhere)
 
--- The object of a call: the heap by its keyword, any other by its name.
+-- The object of a call: the heap is its keyword, any other its name.
+abbrev pub object_tok : Name → Tok
+object_tok n = if bytes_eq n.text (codes "heap") then Tok.heap nowhere else Tok.name (unplaced_name n)
+
 abbrev pub object : Name → Piece
-object n = if bytes_eq n.text (codes "heap") then heap else name n
+object n = Piece.token (object_tok n)
 
 -- ---- lists
 

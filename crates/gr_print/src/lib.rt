@@ -3,9 +3,11 @@
 
 mod declarations;
 mod expressions;
+mod laws;
 mod margin;
 mod parts;
 mod printing;
 mod statements;
 
+pub use laws::probe;
 pub use printing::print_program;
