@@ -1,5 +1,6 @@
 pub mod Layouts
 pub mod PrintsExprs
+pub mod PrintsLists
 pub mod Respelled
 pub mod Samenesses
 pub mod Seen
