@@ -1,6 +1,7 @@
 pub mod Layouts
 pub mod PrintsExprs
 pub mod PrintsLists
+pub mod PrintsStmts
 pub mod Respelled
 pub mod Samenesses
 pub mod Seen
