@@ -1,5 +1,6 @@
 pub mod Layouts
 pub mod PrintsExprs
+pub mod PrintsItems
 pub mod PrintsLists
 pub mod PrintsStmts
 pub mod Respelled

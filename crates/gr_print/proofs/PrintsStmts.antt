@@ -296,3 +296,36 @@ more_case d ts us x xs a b = record { at = λ m.
 
 none_case : (d : ℕ) → StmtsWritten d [] []
 none_case d = record { at = λ m. record { spelled = record { each = each_nil (record { tree = []; spelled = IsStmts.none; same = refl }) }; within = IsSubsequence.none } }
+
+-- ---- by the derivation
+
+mutual
+  stmt_written : {d : ℕ} {ts : Toks} {x : Stmt} → IsStmt d ts x → AreWritten ts → StmtWritten d ts x
+  stmt_written (IsStmt.assign {d} {ts} {x} p) h = assign_case d ts x (assignment_written p h)
+  stmt_written (IsStmt.let_fresh {d} {ts} {x} p) h = let_case d ts x (assignment_written p h.1)
+  stmt_written (IsStmt.call {d} {ts} {c} p) h = do_case d ts c (call_written p (front_written ts semicolons h))
+  stmt_written (IsStmt.print {d} {ts} {x} p) h = print_case d ts x p
+  stmt_written (IsStmt.if_only {d} {ts} {us} {x} {xs} p q) h =
+      subst (λ (u : Toks). StmtWritten d (Tok.key k.If ∷ (ts ++ u)) (st.If x xs [])) (append-nil us) (if_only_case d ts us x xs [] p (block_written q (behind_written ts us h.1)))
+  stmt_written (IsStmt.if_else {d} {ts} {us} {vs} {x} {xs} {ys} p q r) h =
+      let rest = behind_written ts (us ++ Tok.key k.Else ∷ vs) h.1 in
+      if_else_case d ts us vs x xs ys p (block_written q (front_written us (Tok.key k.Else ∷ vs) rest)) (block_written r (behind_written us (Tok.key k.Else ∷ vs) rest).1)
+  stmt_written (IsStmt.while_loop {d} {ts} {us} {x} {xs} p q) h = while_case d ts us x xs p (block_written q (behind_written ts us h.1))
+  stmt_written (IsStmt.finish {d} {ts} {xs} q) h = finish_case d ts xs (block_written q h.1)
+  stmt_written (IsStmt.spawn {d} {us} {ts} {h = w} {n} {xs} p q) h =
+      spawn_case d us ts w n xs p (args_written q (front_written ts semicolons (behind_written us (Tok.name n ∷ (ts ++ semicolons)) h).1))
+  stmt_written (IsStmt.forall_loop {d} {a} {b} {c} {ts} {lo} {hi} {grain} {n} {xs} p q r t) h =
+      let last = Tok.name n ∷ (ts ++ semicolons) in
+      let middle = Tok.key k.Grain ∷ (c ++ last) in
+      let one = behind_written a (Tok.sign s.DotDot ∷ (b ++ middle)) h.1 in
+      let two = behind_written b middle one.1 in
+      let three = behind_written c last two.1 in
+      forall_case d a b c ts lo hi grain n xs p q r (args_written t (front_written ts semicolons three.1))
+
+  pub block_written : {d : ℕ} {ts : Toks} {xs : List Stmt} → IsBlock d ts xs → AreWritten ts → BlockWritten d ts xs
+  block_written IsBlock.missing h = absurd h.0
+  block_written (IsBlock.braces {d} {ts} {xs} p) h = braces_case d ts xs (stmts_written p (front_written ts (Tok.sign s.RightBrace ∷ []) h.1))
+
+  stmts_written : {d : ℕ} {ts : Toks} {xs : List Stmt} → IsStmts d ts xs → AreWritten ts → StmtsWritten d ts xs
+  stmts_written (IsStmts.none {d}) h = none_case d
+  stmts_written (IsStmts.one_more {d} {ts} {us} {x} {xs} p q) h = more_case d ts us x xs (stmt_written p (front_written ts us h)) (stmts_written q (behind_written ts us h))
