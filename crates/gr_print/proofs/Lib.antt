@@ -1,3 +1,4 @@
+pub mod Inductions
 pub mod Layouts
 pub mod PrintsExprs
 pub mod PrintsItems
