@@ -1,5 +1,6 @@
 pub mod Inductions
 pub mod Layouts
+pub mod Placeless
 pub mod PrintsExprs
 pub mod PrintsItems
 pub mod PrintsLists
