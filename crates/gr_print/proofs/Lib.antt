@@ -1,3 +1,4 @@
+pub mod Apart
 pub mod Inductions
 pub mod Layouts
 pub mod Placeless
