@@ -1,4 +1,5 @@
 pub mod Apart
+pub mod Fronts
 pub mod Inductions
 pub mod Layouts
 pub mod Placeless
