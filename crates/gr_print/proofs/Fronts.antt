@@ -71,12 +71,17 @@ digit_head : (bytes rest : Text) → 0 < length bytes → are_all is_digit bytes
 digit_head [] rest some h = absurd (omega arith)
 digit_head (b ∷ bytes) rest some h = and_first (is_digit b) (are_all is_digit bytes) h
 
+pub decimal_digits : (n : ℕ) → n < 2 ^ 64 → are_all is_digit (decimal n) ≡ true
+decimal_digits n small = digits_pass (decimal n) (decimal_is_IsNumeral n small).0.1
+
+pub decimal_some : (n : ℕ) → n < 2 ^ 64 → 0 < length (decimal n)
+decimal_some n small = (decimal_is_IsNumeral n small).0.0
+
 pub number_longest : (n : ℕ) (rest : Text) → n < 2 ^ 64 → Stops is_digit rest → IsLongest (kinds.Number n) (length (decimal n)) (decimal n ++ rest)
 number_longest n rest small h =
-    let numeral = decimal_is_IsNumeral n small in
-    let digits = digits_pass (decimal n) numeral.0.1 in
-    number_found (decimal n ++ rest) (decimal n) (length (decimal n)) n (digit_head (decimal n) rest numeral.0.0 digits)
-      (sym (run_is is_digit (decimal n) rest digits h)) (sym (take-append_seam (decimal n) rest)) (sym numeral.1)
+    let digits = decimal_digits n small in
+    number_found (decimal n ++ rest) (decimal n) (length (decimal n)) n (digit_head (decimal n) rest (decimal_some n small) digits)
+      (sym (run_is is_digit (decimal n) rest digits h)) (sym (take-append_seam (decimal n) rest)) (sym (decimal_is_IsNumeral n small).1)
 
 -- ---- signs
 

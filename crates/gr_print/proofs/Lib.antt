@@ -12,3 +12,4 @@ pub mod Samenesses
 pub mod Seen
 pub mod Subsequences
 pub mod Texts
+pub mod TextsRead
