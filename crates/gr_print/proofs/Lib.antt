@@ -1,4 +1,5 @@
 pub mod Apart
+pub mod Exactly
 pub mod Fronts
 pub mod Inductions
 pub mod Layouts
@@ -10,6 +11,7 @@ pub mod PrintsStmts
 pub mod Respelled
 pub mod Samenesses
 pub mod Seen
+pub mod Spellings
 pub mod Subsequences
 pub mod Texts
 pub mod TextsRead

@@ -64,4 +64,4 @@ brackets (t ∷ ts) = if is_sign s.LeftParen t then 1 + brackets ts else bracket
 pub record IsLeast (text : List ℕ) (p : Program) : Type 0 where
   pub back : ReadsBack text p
   pub within : (tokens : Toks) → IsSpelling tokens p → IsSubsequence (map unplaced_tok (toks text back.spelled.front)) (map unplaced_tok tokens)
-  pub brackets : (tokens : Toks) → IsSpelling tokens p → brackets (toks text back.spelled.front) ≤ brackets tokens
+  pub fewest : (tokens : Toks) → IsSpelling tokens p → brackets (toks text back.spelled.front) ≤ brackets tokens

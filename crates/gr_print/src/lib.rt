@@ -9,5 +9,5 @@ mod parts;
 mod printing;
 mod statements;
 
-pub use laws::probe;
+pub use laws::texts_are_spellings;
 pub use printing::print_program;
