@@ -10,7 +10,8 @@ use Rattle.gr_parse.specs.Tok.{Tok, toks}
 use Rattle.gr_parse.specs.Parsing.{Toks}
 use Rattle.gr_parse.specs.Grammar.{IsProgram, IsProgramOf}
 use Rattle.gr_print.specs.Unplaced.{nowhere, unplaced_tok, unplaced_item, unplaced, SameButForPlaces}
-use Rattle.gr_print.specs.Layout.{Layout, bytes_of, program, program_text}
+use Rattle.gr_print.specs.Pieces.{Layout, bytes_of}
+use Rattle.gr_print.specs.Layout.{program, program_text}
 use Rattle.gr_print.specs.Printed.{IsSubsequence, IsWritten, AreWritten, IsSpelling, IsSpelled, ReadsBack, IsLeast, brackets}
 use Rattle.gr_print.proofs.Apart.{program_apart}
 use Rattle.gr_print.proofs.Placeless.{program_same}
@@ -18,6 +19,7 @@ use Rattle.gr_print.proofs.PrintsExprs.{Written}
 use Rattle.gr_print.proofs.PrintsItems.{program_written}
 use Rattle.gr_print.proofs.Respelled.{Respelled}
 use Rattle.gr_print.proofs.Seen.{tokens_of}
+use Rattle.gr_print.proofs.Spellings.{text_spells}
 use Rattle.gr_print.proofs.Subsequences.{brackets_le, brackets_unplaced}
 use Rattle.gr_print.proofs.TextsRead.{Found, found}
 
@@ -107,8 +109,10 @@ module _ (p : Program) where
     within : (tokens : Toks) → IsSpelling tokens p → IsSubsequence (map unplaced_tok (toks text read_as.front)) (map unplaced_tok tokens)
     within tokens o = subst (λ (us : Toks). IsSubsequence us (map unplaced_tok tokens)) (sym seen) (spelling_written o).within
 
-    fewest : (tokens : Toks) → IsSpelling tokens p → brackets (toks text read_as.front) ≤ brackets tokens
-    fewest tokens o = omega (arith, brackets_le (within tokens o), brackets_unplaced (toks text read_as.front), brackets_unplaced tokens)
+    fewest : (other : List ℕ) (o : ReadsBack other p) → brackets (toks text read_as.front) ≤ brackets (toks other o.spelled.front)
+    fewest other o =
+        let tokens = toks other o.spelled.front in
+        omega (arith, brackets_le (within tokens (text_spells other o.tokens o.read p o.reads o.spelled o.same)), brackets_unplaced (toks text read_as.front), brackets_unplaced tokens)
 
     -- The text of a program is read as it, and each spelling of the program has its tokens.
     pub least : IsLeast text p

@@ -17,7 +17,8 @@ use Rattle.gr_lang.specs.declared.syntax.Stmt.TheFolds.{fold-roll-Stmt}
 use Rattle.gr_text.specs.declared.token.Keyword.TheVariants as k
 use Rattle.gr_text.specs.declared.token.Sign.TheVariants as s
 use Rattle.gr_parse.specs.Tok.{level_of}
-use Rattle.gr_print.specs.Layout.{Piece, Layout, Shown, shown, expr_step, below, bracketed, joined, name, number, sign, key, expr, call, args, block, else_part, assignment, start, started, range, stmt, stmt_step}
+use Rattle.gr_print.specs.Pieces.{Piece, Layout, name, number, sign, key}
+use Rattle.gr_print.specs.Layout.{Shown, shown, expr_step, below, bracketed, joined, expr, call, args, block, else_part, assignment, start, started, range, stmt, stmt_step}
 
 -- ---- expressions
 

@@ -19,7 +19,8 @@ use Rattle.gr_text.specs.declared.token.Keyword.TheVariants as k
 use Rattle.gr_text.specs.declared.token.Sign.TheVariants as s
 use Rattle.gr_parse.specs.Tok.{level_of}
 use Rattle.gr_print.specs.Unplaced.{unplaced_name, unplaced_number, unplaced_expr, unplaced_call, unplaced_right, unplaced_how, unplaced_stmt, unplaced_item}
-use Rattle.gr_print.specs.Layout.{Piece, Layout, Shown, name, number, key, sign, object, listed, names, numbers, shown, below, joined, whole, expr, exprs, args, reducer, call, right_side, start, started, range, assignment, line, lines, block, else_part, stmt, item, input, task, program}
+use Rattle.gr_print.specs.Pieces.{Piece, Layout, name, number, key, sign, object}
+use Rattle.gr_print.specs.Layout.{Shown, listed, names, numbers, shown, below, joined, whole, expr, exprs, args, reducer, call, right_side, start, started, range, assignment, line, lines, block, else_part, stmt, item, input, task, program}
 use Rattle.gr_print.proofs.Inductions.{ExprCases, all_exprs, EachOf, StmtCases, all_stmts}
 use Rattle.gr_print.proofs.Layouts.{shown_lit, shown_local, shown_not, shown_two, stmt_set, stmt_do, stmt_print, stmt_if, stmt_while, stmt_finish, stmt_spawn, stmt_forall}
 use Rattle.gr_print.proofs.Samenesses.{bare_lit, bare_local, bare_not, bare_two, bare_set, bare_do, bare_print, bare_if, bare_while, bare_finish, bare_spawn, bare_forall}

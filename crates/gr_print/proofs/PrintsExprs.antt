@@ -13,7 +13,8 @@ use Rattle.gr_parse.specs.Tok.{Tok, sign_of, level_of}
 use Rattle.gr_parse.specs.Parsing.{Toks, loosest}
 use Rattle.gr_parse.specs.Grammar.{IsUnary, IsLevel, IsComparison, IsExpr}
 use Rattle.gr_print.specs.Unplaced.{unplaced_name, unplaced_number, unplaced_tok, unplaced_expr}
-use Rattle.gr_print.specs.Layout.{Piece, Layout, Shown, name, number, sign, shown, below, bracketed, joined, left_level, expr}
+use Rattle.gr_print.specs.Pieces.{Piece, Layout, name, number, sign}
+use Rattle.gr_print.specs.Layout.{Shown, shown, below, bracketed, joined, left_level, expr}
 use Rattle.gr_print.specs.Printed.{IsSubsequence}
 use Rattle.gr_print.proofs.Layouts.{shown_lit, shown_local, shown_not, shown_two, below_bare, below_more}
 use Rattle.gr_print.proofs.Respelled.{Each, each_nil, each_sign, each_name, each_number, each_part, each_last, Respelled, Freely, weaken}

@@ -14,7 +14,8 @@ use Rattle.gr_parse.specs.Tok.{Tok}
 use Rattle.gr_parse.specs.Parsing.{Toks, max_nesting}
 use Rattle.gr_parse.specs.Grammar.{IsName, IsNumber, IsBlock, IsItem, IsProgram}
 use Rattle.gr_print.specs.Unplaced.{nowhere, unplaced_name, unplaced_number, unplaced_tok, unplaced_stmt, unplaced_item}
-use Rattle.gr_print.specs.Layout.{Piece, Layout, name, number, key, sign, names, numbers, block, stmt, item, input, task, program}
+use Rattle.gr_print.specs.Pieces.{Piece, Layout, name, number, key, sign}
+use Rattle.gr_print.specs.Layout.{names, numbers, block, stmt, item, input, task, program}
 use Rattle.gr_print.specs.Printed.{IsSubsequence, AreWritten}
 use Rattle.gr_print.proofs.PrintsExprs.{Written}
 use Rattle.gr_print.proofs.PrintsLists.{separated_written, enclosed_written, name_written, number_written}

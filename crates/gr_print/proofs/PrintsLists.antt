@@ -18,7 +18,8 @@ use Rattle.gr_parse.specs.Tok.{Tok, heap_name}
 use Rattle.gr_parse.specs.Parsing.{Toks, call_of}
 use Rattle.gr_parse.specs.Grammar.{IsExpr, IsName, IsNumber, IsArgs, IsObject, IsOperation, IsCall}
 use Rattle.gr_print.specs.Unplaced.{nowhere, unplaced_name, unplaced_number, unplaced_tok, unplaced_expr, unplaced_call}
-use Rattle.gr_print.specs.Layout.{Piece, Layout, name, number, sign, object_tok, behind, listed, expr, exprs, args, call}
+use Rattle.gr_print.specs.Pieces.{Piece, Layout, name, number, sign, object_tok}
+use Rattle.gr_print.specs.Layout.{behind, listed, expr, exprs, args, call}
 use Rattle.gr_print.specs.Printed.{IsSubsequence, IsWritten, AreWritten}
 use Rattle.gr_print.proofs.PrintsExprs.{Written, expr_written}
 use Rattle.gr_print.proofs.Respelled.{Each, each_nil, each_sign, each_name, each_number, each_object, each_part, each_last, Freely}

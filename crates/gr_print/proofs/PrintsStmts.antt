@@ -17,7 +17,8 @@ use Rattle.gr_parse.specs.Tok.{Tok}
 use Rattle.gr_parse.specs.Parsing.{Toks}
 use Rattle.gr_parse.specs.Grammar.{IsExpr, IsArgs, IsCall, IsRight, IsAssignment, IsHow, IsStmt, IsBlock, IsStmts}
 use Rattle.gr_print.specs.Unplaced.{unplaced_name, unplaced_tok, unplaced_expr, unplaced_call, unplaced_right, unplaced_how, unplaced_stmt}
-use Rattle.gr_print.specs.Layout.{Piece, Layout, name, key, sign, names, expr, args, call, right_side, start, started, range, let_word, assignment, line, lines, block, else_part, stmt}
+use Rattle.gr_print.specs.Pieces.{Piece, Layout, name, key, sign}
+use Rattle.gr_print.specs.Layout.{names, expr, args, call, right_side, start, started, range, let_word, assignment, line, lines, block, else_part, stmt}
 use Rattle.gr_print.specs.Printed.{IsSubsequence, IsWritten, AreWritten}
 use Rattle.gr_print.proofs.Layouts.{stmt_set, stmt_do, stmt_print, stmt_if, stmt_while, stmt_finish, stmt_spawn, stmt_forall}
 use Rattle.gr_print.proofs.PrintsExprs.{Written, expr_written}

@@ -12,7 +12,7 @@ use Rattle.gr_parse.specs.Tok.{Tok, heap_name}
 use Rattle.gr_parse.specs.Parsing.{Toks}
 use Rattle.gr_parse.specs.Grammar.{IsObject}
 use Rattle.gr_print.specs.Unplaced.{nowhere, unplaced_name, unplaced_number, unplaced_tok}
-use Rattle.gr_print.specs.Layout.{object_tok}
+use Rattle.gr_print.specs.Pieces.{object_tok}
 
 -- ---- tokens that are the same but for places
 

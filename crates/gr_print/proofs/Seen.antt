@@ -2,7 +2,8 @@
 use Rattle.std.proofs.Common.{◌≡◌, ℕ, zero, suc, List, [], ◌∷◌, ◌++◌, replicate, refl, sym, ap, ◌∙◌, append_assoc}
 use Rattle.gr_parse.specs.Tok.{Tok}
 use Rattle.gr_parse.specs.Parsing.{Toks}
-use Rattle.gr_print.specs.Layout.{Piece, Layout, line}
+use Rattle.gr_print.specs.Pieces.{Piece, Layout}
+use Rattle.gr_print.specs.Layout.{line}
 
 abbrev pub piece_tokens : Piece → Toks
 piece_tokens (Piece.token t) = t ∷ []

@@ -19,7 +19,8 @@ use Rattle.gr_text.specs.declared.token.Sign.TheVariants as s
 use Rattle.gr_text.specs.Spelling.{sign_bytes}
 use Rattle.gr_parse.specs.Tok.{Tok, sign_of, level_of}
 use Rattle.gr_print.specs.Unplaced.{nowhere, unplaced_name}
-use Rattle.gr_print.specs.Layout.{Piece, Layout, Shown, token_bytes, piece_bytes, bytes_of, name, sign, object, names, numbers, shown, below, bracket, joined, left_level, expr, exprs, args, reducer, call, right_side, let_word, assignment, start, started, range, stmt, line, lines, block, else_part, input, task}
+use Rattle.gr_print.specs.Pieces.{Piece, Layout, token_bytes, piece_bytes, bytes_of, name, sign, object}
+use Rattle.gr_print.specs.Layout.{Shown, names, numbers, shown, below, bracket, joined, left_level, expr, exprs, args, reducer, call, right_side, let_word, assignment, start, started, range, stmt, line, lines, block, else_part, input, task}
 use Rattle.gr_print.proofs.Layouts.{below_lit, below_local, below_not, below_two, below_two_grouped, stmt_set, stmt_do, stmt_print, stmt_if, stmt_while, stmt_finish, stmt_spawn, stmt_forall}
 
 pub bytes_of-append : (ps qs : Layout) → bytes_of (ps ++ qs) ≡ bytes_of ps ++ bytes_of qs

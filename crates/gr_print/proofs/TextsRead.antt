@@ -27,7 +27,7 @@ use Rattle.gr_parse.specs.Tok.{Tok, tok_of, tok_of_kind, toks}
 use Rattle.gr_parse.specs.Parsing.{Toks}
 use Rattle.gr_parse.proofs.Whole.{toks_more, toks_none}
 use Rattle.gr_print.specs.Unplaced.{unplaced_tok}
-use Rattle.gr_print.specs.Layout.{Piece, Layout, token_bytes, bytes_of}
+use Rattle.gr_print.specs.Pieces.{Piece, Layout, token_bytes, bytes_of}
 use Rattle.gr_print.specs.Printed.{IsWritten, AreWritten}
 use Rattle.gr_print.proofs.Apart.{is_half, ends_sign, ends_word, Fits, Apart}
 use Rattle.gr_print.proofs.Fronts.{Stops, NoHalf, name_longest, keyword_longest, number_longest, sign_ahead, decimal_digits, decimal_some}

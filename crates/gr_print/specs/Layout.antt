@@ -1,7 +1,5 @@
 -- How a program is laid out: one item or statement a line, blocks indented by two blanks, one blank around binary signs, and brackets only where the grouping needs them.
-use Rattle.std.specs.Prelude.{ℕ, suc, ◌+◌, Bool, true, false, if◌then◌else◌, nat_le, ◌==◌, List, [], ◌∷◌, ◌++◌, map, replicate, Option, Some, None, codes}
-use Rattle.std.specs.Fmt.{decimal}
-use Rattle.std.specs.Str.{bytes_eq}
+use Rattle.std.specs.Prelude.{ℕ, suc, ◌+◌, Bool, true, false, if◌then◌else◌, nat_le, ◌==◌, List, [], ◌∷◌, ◌++◌, map, replicate, Option, Some, None}
 use Rattle.gr_lang.specs.declared.syntax.Name.{Name}
 use Rattle.gr_lang.specs.declared.syntax.Number.{Number}
 use Rattle.gr_lang.specs.declared.syntax.BinOp.{BinOp}
@@ -19,65 +17,12 @@ use Rattle.gr_lang.specs.declared.syntax.Stmt.TheOpen.{Stmt-F}
 use Rattle.gr_lang.specs.declared.syntax.Item.{Item}
 use Rattle.gr_lang.specs.declared.syntax.Item.TheVariants as items
 use Rattle.gr_lang.specs.declared.syntax.Program.{Program}
-use Rattle.gr_text.specs.declared.token.Keyword.{Keyword}
 use Rattle.gr_text.specs.declared.token.Keyword.TheVariants as k
 use Rattle.gr_text.specs.declared.token.Sign.{Sign}
 use Rattle.gr_text.specs.declared.token.Sign.TheVariants as s
-use Rattle.gr_text.specs.Spelling.{keyword_bytes, sign_bytes}
-use Rattle.gr_parse.specs.Tok.{Tok, sign_of, level_of}
+use Rattle.gr_parse.specs.Tok.{sign_of, level_of}
 use Rattle.gr_parse.specs.Parsing.{loosest}
-use Rattle.gr_print.specs.Unplaced.{nowhere, unplaced_name, unplaced_number}
-
--- ---- pieces
-
--- A piece of a text: a token without its place, a blank, or the end of a line.
-pub data Piece : Type 0 where
-  token : Tok → Piece
-  blank : Piece
-  newline : Piece
-
-abbrev pub Layout : Type 0
-Layout = List Piece
-
-abbrev pub token_bytes : Tok → List ℕ
-token_bytes (Tok.name n) = n.text
-token_bytes (Tok.number n) = decimal n.value
-token_bytes (Tok.heap at) = codes "heap"
-token_bytes (Tok.key word) = keyword_bytes word
-token_bytes (Tok.sign g) = sign_bytes g
-token_bytes Tok.missing = []
-
-abbrev pub piece_bytes : Piece → List ℕ
-piece_bytes (Piece.token t) = token_bytes t
-piece_bytes Piece.blank = codes " "
-piece_bytes Piece.newline = codes "\n"
-
--- The text that is laid out so.
-abbrev pub bytes_of : Layout → List ℕ
-bytes_of [] = []
-bytes_of (p ∷ ps) = piece_bytes p ++ bytes_of ps
-
-abbrev pub name : Name → Piece
-name n = Piece.token (Tok.name (unplaced_name n))
-
-abbrev pub number : Number → Piece
-number n = Piece.token (Tok.number (unplaced_number n))
-
-abbrev pub key : Keyword → Piece
-key word = Piece.token (Tok.key word)
-
-abbrev pub sign : Sign → Piece
-sign g = Piece.token (Tok.sign g)
-
-abbrev pub heap : Piece
-heap = Piece.token (Tok.heap nowhere)
-
--- The object of a call: the heap is its keyword, any other its name.
-abbrev pub object_tok : Name → Tok
-object_tok n = if bytes_eq n.text (codes "heap") then Tok.heap nowhere else Tok.name (unplaced_name n)
-
-abbrev pub object : Name → Piece
-object n = Piece.token (object_tok n)
+use Rattle.gr_print.specs.Pieces.{Piece, Layout, bytes_of, name, number, key, sign, semicolon, heap, object}
 
 -- ---- lists
 
@@ -91,9 +36,11 @@ abbrev pub listed : List Layout → Layout
 listed [] = []
 listed (x ∷ xs) = x ++ behind xs
 
+-- Names, as targets and parameters.
 abbrev pub names : List Name → Layout
 names ns = listed (map (λ n. name n ∷ []) ns)
 
+-- Numbers, as those of an input.
 abbrev pub numbers : List Number → Layout
 numbers ns = listed (map (λ n. number n ∷ []) ns)
 
@@ -108,6 +55,7 @@ pub record Shown : Type 0 where
 abbrev pub bracket : Bool → Sign → Layout
 bracket needed g = if needed then sign g ∷ [] else []
 
+-- With brackets around.
 abbrev pub bracketed : Layout → Layout
 bracketed ps = bracket true s.LeftParen ++ (ps ++ bracket true s.RightParen)
 
@@ -123,12 +71,14 @@ left_level level = if level == loosest then loosest else suc level
 abbrev pub joined : BinOp → Shown → Shown → Layout
 joined op one other = below (left_level (level_of op)) one ++ (Piece.blank ∷ sign (sign_of op) ∷ Piece.blank ∷ below (level_of op) other)
 
+-- An expression whose operands are laid out already.
 abbrev pub expr_step : Expr-F Shown → Shown
 expr_step (Expr-F.Lit v) = record { rank = 0; bare = number v ∷ [] }
 expr_step (Expr-F.Local v) = record { rank = 0; bare = name v ∷ [] }
 expr_step (Expr-F.Not inner) = record { rank = 0; bare = sign s.Bang ∷ below 0 inner }
 expr_step (Expr-F.Two op one other) = record { rank = suc (level_of op); bare = joined op one other }
 
+-- An expression with its rank.
 unfoldable pub shown : Expr → Shown
 shown = fold-Expr Shown expr_step
 
@@ -136,14 +86,17 @@ shown = fold-Expr Shown expr_step
 abbrev pub whole : ℕ
 whole = 6
 
+-- A whole expression, which needs no brackets.
 abbrev pub expr : Expr → Layout
 expr x = below whole (shown x)
 
 -- ---- arguments and calls
 
+-- Expressions, as arguments.
 abbrev pub exprs : List Expr → Layout
 exprs xs = listed (map expr xs)
 
+-- Arguments in their brackets.
 abbrev pub args : List Expr → Layout
 args xs = sign s.LeftParen ∷ (exprs xs ++ sign s.RightParen ∷ [])
 
@@ -152,15 +105,18 @@ abbrev pub reducer : Option Name → Layout
 reducer None = []
 reducer (Some n) = Piece.blank ∷ name n ∷ Piece.blank ∷ []
 
+-- A call: an object, a dot, an operation, and arguments.
 abbrev pub call : CallText → Layout
 call c = object c.object ∷ sign s.Dot ∷ name c.op ∷ (reducer c.reducer ++ args c.args)
 
 -- ---- statements
 
+-- What stands right of `=`.
 abbrev pub right_side : Right → Layout
 right_side (right.Value value) = expr value
 right_side (right.Result c) = call c
 
+-- Where a new task may run.
 abbrev pub start : HowText → Layout
 start how.Here = key k.Spawn ∷ []
 start (how.At core) = key k.Spawn ∷ Piece.blank ∷ key k.At ∷ Piece.blank ∷ expr core
@@ -168,18 +124,20 @@ start how.Offer = key k.Offer ∷ []
 
 -- The task that is started, with its arguments.
 abbrev pub started : Name → List Expr → Layout
-started target xs = Piece.blank ∷ name target ∷ (args xs ++ sign s.Semicolon ∷ [])
+started target xs = Piece.blank ∷ name target ∷ (args xs ++ semicolon)
 
 -- The head of a `forall`: its bounds and its grain.
 abbrev pub range : Expr → Expr → Expr → Layout
 range lo hi grain = key k.Forall ∷ Piece.blank ∷ (expr lo ++ (Piece.blank ∷ sign s.DotDot ∷ Piece.blank ∷ (expr hi ++ (Piece.blank ∷ key k.Grain ∷ Piece.blank ∷ expr grain))))
 
+-- The word before fresh targets.
 abbrev pub let_word : Bool → Layout
 let_word true = key k.Let ∷ Piece.blank ∷ []
 let_word false = []
 
+-- Targets, and what they are set to.
 abbrev pub assignment : Bool → List Name → Right → Layout
-assignment fresh targets right = let_word fresh ++ (names targets ++ (Piece.blank ∷ sign s.Assign ∷ Piece.blank ∷ (right_side right ++ sign s.Semicolon ∷ [])))
+assignment fresh targets right = let_word fresh ++ (names targets ++ (Piece.blank ∷ sign s.Assign ∷ Piece.blank ∷ (right_side right ++ semicolon)))
 
 -- A line behind a margin of so many blanks.
 abbrev pub line : ℕ → Layout → Layout
@@ -202,32 +160,36 @@ else_part (x ∷ xs) margin = Piece.blank ∷ key k.Else ∷ Piece.blank ∷ blo
 -- A statement that begins in a line with this margin, from its first token to its last. Its blocks' statements are laid out already, each for its margin.
 abbrev pub stmt_step : Stmt-F (ℕ → Layout) → ℕ → Layout
 stmt_step (Stmt-F.Set1 fresh targets right) margin = assignment fresh targets right
-stmt_step (Stmt-F.Do c) margin = call c ++ sign s.Semicolon ∷ []
-stmt_step (Stmt-F.Print value) margin = key k.Print ∷ Piece.blank ∷ (expr value ++ sign s.Semicolon ∷ [])
+stmt_step (Stmt-F.Do c) margin = call c ++ semicolon
+stmt_step (Stmt-F.Print value) margin = key k.Print ∷ Piece.blank ∷ (expr value ++ semicolon)
 stmt_step (Stmt-F.If test one other) margin = key k.If ∷ Piece.blank ∷ (expr test ++ (Piece.blank ∷ (block one margin ++ else_part other margin)))
 stmt_step (Stmt-F.While test body) margin = key k.While ∷ Piece.blank ∷ (expr test ++ (Piece.blank ∷ block body margin))
 stmt_step (Stmt-F.Finish body) margin = key k.Finish ∷ Piece.blank ∷ block body margin
 stmt_step (Stmt-F.Spawn how target xs) margin = start how ++ started target xs
 stmt_step (Stmt-F.Forall lo hi grain target xs) margin = range lo hi grain ++ started target xs
 
+-- A statement that begins in a line with this margin.
 unfoldable pub stmt : Stmt → ℕ → Layout
 stmt = fold-Stmt (ℕ → Layout) stmt_step
 
 -- ---- items and programs
 
+-- The first words of an array.
 abbrev pub input : Name → List Number → Layout
-input n values = key k.Input ∷ Piece.blank ∷ name n ∷ Piece.blank ∷ sign s.Assign ∷ Piece.blank ∷ (numbers values ++ sign s.Semicolon ∷ [])
+input n values = key k.Input ∷ Piece.blank ∷ name n ∷ Piece.blank ∷ sign s.Assign ∷ Piece.blank ∷ (numbers values ++ semicolon)
 
+-- A task with its parameters and body.
 abbrev pub task : Name → List Name → List Stmt → Layout
 task n params body = key k.Task ∷ Piece.blank ∷ name n ∷ sign s.LeftParen ∷ (names params ++ (sign s.RightParen ∷ Piece.blank ∷ block (map stmt body) 0))
 
+-- An item, from its first token to its last.
 abbrev pub item : Item → Layout
-item (items.Array n words) = key k.Array ∷ Piece.blank ∷ name n ∷ sign s.LeftBracket ∷ number words ∷ sign s.RightBracket ∷ sign s.Semicolon ∷ []
-item (items.Set n) = key k.Set ∷ Piece.blank ∷ name n ∷ sign s.Semicolon ∷ []
-item (items.Map n) = key k.Map ∷ Piece.blank ∷ name n ∷ sign s.Semicolon ∷ []
-item (items.Vector n) = key k.Vector ∷ Piece.blank ∷ name n ∷ sign s.Semicolon ∷ []
-item (items.Heap words) = heap ∷ Piece.blank ∷ number words ∷ sign s.Semicolon ∷ []
-item (items.Show n) = key k.Show ∷ Piece.blank ∷ name n ∷ sign s.Semicolon ∷ []
+item (items.Array n words) = key k.Array ∷ Piece.blank ∷ name n ∷ sign s.LeftBracket ∷ number words ∷ sign s.RightBracket ∷ semicolon
+item (items.Set n) = key k.Set ∷ Piece.blank ∷ name n ∷ semicolon
+item (items.Map n) = key k.Map ∷ Piece.blank ∷ name n ∷ semicolon
+item (items.Vector n) = key k.Vector ∷ Piece.blank ∷ name n ∷ semicolon
+item (items.Heap words) = heap ∷ Piece.blank ∷ number words ∷ semicolon
+item (items.Show n) = key k.Show ∷ Piece.blank ∷ name n ∷ semicolon
 item (items.Input n values) = input n values
 item (items.Task n params body) = task n params body
 

@@ -29,6 +29,7 @@ IsWritten (Tok.key word) = word ≢ k.Heap
 IsWritten (Tok.sign g) = Unit {0}
 IsWritten Tok.missing = ⊥
 
+-- Tokens that a text can have.
 abbrev pub AreWritten : Toks → Type 0
 AreWritten [] = Unit {0}
 AreWritten (t ∷ ts) = IsWritten t × AreWritten ts
@@ -60,8 +61,8 @@ abbrev pub brackets : Toks → ℕ
 brackets [] = 0
 brackets (t ∷ ts) = if is_sign s.LeftParen t then 1 + brackets ts else brackets ts
 
--- The text is read as the program, but for places, and each spelling of the program has the tokens of the text in their order, and so no fewer brackets.
+-- The text is read as the program, but for places. Each spelling of the program has the tokens of the text in their order, and maybe others between them; and no text that is read as the program has fewer brackets.
 pub record IsLeast (text : List ℕ) (p : Program) : Type 0 where
   pub back : ReadsBack text p
   pub within : (tokens : Toks) → IsSpelling tokens p → IsSubsequence (map unplaced_tok (toks text back.spelled.front)) (map unplaced_tok tokens)
-  pub fewest : (tokens : Toks) → IsSpelling tokens p → brackets (toks text back.spelled.front) ≤ brackets tokens
+  pub fewest : (other : List ℕ) (o : ReadsBack other p) → brackets (toks text back.spelled.front) ≤ brackets (toks other o.spelled.front)

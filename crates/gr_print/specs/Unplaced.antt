@@ -26,12 +26,15 @@ use Rattle.gr_parse.specs.Tok.{Tok}
 abbrev pub nowhere : Place
 nowhere = record { line = 1; column = 1 }
 
+-- A name without its place.
 abbrev pub unplaced_name : Name → Name
 unplaced_name n = record { text = n.text; at = nowhere }
 
+-- A number without its place.
 abbrev pub unplaced_number : Number → Number
 unplaced_number n = record { value = n.value; at = nowhere }
 
+-- A token without the place that it keeps, if it keeps one.
 abbrev pub unplaced_tok : Tok → Tok
 unplaced_tok (Tok.name n) = Tok.name (unplaced_name n)
 unplaced_tok (Tok.number n) = Tok.number (unplaced_number n)
@@ -47,16 +50,20 @@ unplaced_expr_step (Expr-F.Local name) = e.Local (unplaced_name name)
 unplaced_expr_step (Expr-F.Not inner) = e.Not inner
 unplaced_expr_step (Expr-F.Two op one other) = e.Two op one other
 
+-- An expression without the places of its names and numbers.
 unfoldable pub unplaced_expr : Expr → Expr
 unplaced_expr = fold-Expr Expr unplaced_expr_step
 
+-- A call without the places of its names and arguments.
 abbrev pub unplaced_call : CallText → CallText
 unplaced_call c = record { object = unplaced_name c.object; op = unplaced_name c.op; reducer = option_map unplaced_name c.reducer; args = map unplaced_expr c.args }
 
+-- What stands right of `=`, without places.
 abbrev pub unplaced_right : Right → Right
 unplaced_right (right.Value value) = right.Value (unplaced_expr value)
 unplaced_right (right.Result call) = right.Result (unplaced_call call)
 
+-- Where a new task may run, without places.
 abbrev pub unplaced_how : HowText → HowText
 unplaced_how how.Here = how.Here
 unplaced_how (how.At core) = how.At (unplaced_expr core)
@@ -73,9 +80,11 @@ unplaced_stmt_step (Stmt-F.Finish body) = st.Finish body
 unplaced_stmt_step (Stmt-F.Spawn how target args) = st.Spawn (unplaced_how how) (unplaced_name target) (map unplaced_expr args)
 unplaced_stmt_step (Stmt-F.Forall lo hi grain target args) = st.Forall (unplaced_expr lo) (unplaced_expr hi) (unplaced_expr grain) (unplaced_name target) (map unplaced_expr args)
 
+-- A statement without places.
 unfoldable pub unplaced_stmt : Stmt → Stmt
 unplaced_stmt = fold-Stmt Stmt unplaced_stmt_step
 
+-- An item without places.
 abbrev pub unplaced_item : Item → Item
 unplaced_item (items.Array name words) = items.Array (unplaced_name name) (unplaced_number words)
 unplaced_item (items.Set name) = items.Set (unplaced_name name)
@@ -86,6 +95,7 @@ unplaced_item (items.Show name) = items.Show (unplaced_name name)
 unplaced_item (items.Input name values) = items.Input (unplaced_name name) (map unplaced_number values)
 unplaced_item (items.Task name params body) = items.Task (unplaced_name name) (map unplaced_name params) (map unplaced_stmt body)
 
+-- A program without places, that of its end included.
 abbrev pub unplaced : Program → Program
 unplaced p = record { items = map unplaced_item p.items; end = nowhere }
 

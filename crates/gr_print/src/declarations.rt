@@ -1,7 +1,7 @@
 //! Items as text.
 ghost use Rattle.std.specs.Prelude.{◌≡◌, ◌++◌, OnOk, string_bytes};
 ghost use Rattle.gr_print.specs.Layout as spec;
-ghost use Rattle.gr_print.specs.Layout.{bytes_of};
+ghost use Rattle.gr_print.specs.Pieces.{bytes_of};
 
 use crate::margin::Margin;
 use crate::parts::{write_names, write_numbers};

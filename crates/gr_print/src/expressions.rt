@@ -2,7 +2,7 @@
 ghost use Rattle.std.specs.Prelude.{◌≡◌, ◌++◌, ◌≤◌, OnOk, string_bytes};
 ghost use Rattle.gr_parse.specs.Tok as grammar;
 ghost use Rattle.gr_print.specs.Layout as spec;
-ghost use Rattle.gr_print.specs.Layout.{bytes_of};
+ghost use Rattle.gr_print.specs.Pieces.{bytes_of};
 
 use gr_lang::syntax::{BinOp, Expr};
 use gr_text::token::Sign;

@@ -1,7 +1,7 @@
 //! Statements and blocks as text.
 ghost use Rattle.std.specs.Prelude.{◌≡◌, ◌++◌, map, OnOk, string_bytes};
 ghost use Rattle.gr_print.specs.Layout as spec;
-ghost use Rattle.gr_print.specs.Layout.{bytes_of};
+ghost use Rattle.gr_print.specs.Pieces.{bytes_of};
 
 use crate::expressions::write_expr;
 use crate::margin::Margin;

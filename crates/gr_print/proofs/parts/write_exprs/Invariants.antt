@@ -1,5 +1,6 @@
 use Rattle.std.proofs.Common.{◌≡◌, ◌++◌, map, drop, string_bytes}
-use Rattle.gr_print.specs.Layout.{bytes_of, expr, exprs, behind}
+use Rattle.gr_print.specs.Pieces.{bytes_of}
+use Rattle.gr_print.specs.Layout.{expr, exprs, behind}
 use Rattle.gr_print.proofs.parts.write_exprs.Given as goal
 
 abbrev pub invariant-each : goal.invariant-each

@@ -1,5 +1,6 @@
 use Rattle.std.proofs.Common.{◌≡◌, ◌++◌, drop, string_bytes}
-use Rattle.gr_print.specs.Layout.{bytes_of, program}
+use Rattle.gr_print.specs.Pieces.{bytes_of}
+use Rattle.gr_print.specs.Layout.{program}
 use Rattle.gr_print.proofs.printing.print_program.Given as goal
 
 abbrev pub invariant-each : goal.invariant-each

@@ -1,5 +1,6 @@
 use Rattle.std.proofs.Common.{◌≡◌, ◌++◌, map, drop, string_bytes}
-use Rattle.gr_print.specs.Layout.{bytes_of, lines, stmt}
+use Rattle.gr_print.specs.Pieces.{bytes_of}
+use Rattle.gr_print.specs.Layout.{lines, stmt}
 use Rattle.gr_print.proofs.statements.+statements.Given as goal
 
 abbrev pub invariant-write_lines-each : goal.invariant-write_lines-each
