@@ -20,10 +20,10 @@ use Rattle.gr_text.specs.declared.token.Sign.{Sign}
 use Rattle.gr_text.specs.declared.token.Sign.TheVariants as s
 use Rattle.gr_parse.specs.Tok.{Tok, sign_of, level_of}
 use Rattle.gr_print.specs.Unplaced.{nowhere, unplaced_name, unplaced_number}
-use Rattle.gr_print.specs.Pieces.{Piece, Layout, name, number, key, sign, heap, object_tok, object}
-use Rattle.gr_print.specs.Layout.{Shown, behind, listed, names, numbers, shown, below, bracketed, joined, left_level, whole, expr, exprs, args, reducer, call, right_side, start, started, range, let_word, assignment, line, lines, block, else_part, stmt, item, input, task, program}
-use Rattle.gr_print.proofs.Inductions.{ExprCases, all_exprs, EachOf, StmtCases, all_stmts}
-use Rattle.gr_print.proofs.Layouts.{shown_lit, shown_local, shown_not, shown_two, below_bare, below_more, stmt_set, stmt_do, stmt_print, stmt_if, stmt_while, stmt_finish, stmt_spawn, stmt_forall}
+use Rattle.gr_print.specs.Pieces.{Piece, Layout, name, number, key, sign, object_tok}
+use Rattle.gr_print.specs.Layout.{Shown, behind, listed, names, numbers, shown, below, bracketed, left_level, whole, expr, args, reducer, call, right_side, start, started, range, assignment, line, lines, block, else_part, stmt, item, program}
+use Rattle.gr_print.proofs.Inductions.{all_exprs, EachOf, all_stmts}
+use Rattle.gr_print.proofs.Layouts.{shown_lit, shown_local, shown_not, shown_two, stmt_set, stmt_do, stmt_print, stmt_if, stmt_while, stmt_finish, stmt_spawn, stmt_forall}
 
 -- ---- neighbours
 
@@ -189,7 +189,7 @@ closing = behind_sign s.RightParen refl (of_tail nothing)
 line_then : (m : ℕ) {ps qs : Layout} → Phrase ps → Loose qs → Phrase (line m ps ++ qs)
 line_then m {ps} {qs} h k =
     subst Phrase (sym (append_assoc (replicate m Piece.blank) (ps ++ Piece.newline ∷ []) qs ∙ ap (λ (us : Layout). replicate m Piece.blank ++ us) (append_assoc ps (Piece.newline ∷ []) qs)))
-      (margin_phrase m (phrase_then h (behind_newline k)))
+    (margin_phrase m (phrase_then h (behind_newline k)))
 
 -- ---- lists
 

@@ -1,5 +1,5 @@
 -- A program's text is read back as the program, and no spelling of the program does with less.
-use Rattle.std.proofs.Common.{◌≡◌, ℕ, ◌+◌, ◌≤◌, List, [], ◌∷◌, ◌++◌, map, length, drop, Ok, refl, sym, ap, subst, ◌∙◌, arith}
+use Rattle.std.proofs.Common.{◌≡◌, ℕ, ◌≤◌, List, [], ◌∷◌, ◌++◌, map, length, refl, sym, ap, subst, ◌∙◌, arith}
 use Rattle.gr_lang.specs.declared.syntax.Place.{Place}
 use Rattle.gr_lang.specs.declared.syntax.Item.{Item}
 use Rattle.gr_lang.specs.declared.syntax.Program.{Program}
@@ -8,9 +8,9 @@ use Rattle.gr_text.specs.declared.token.TokenKind.TheVariants as kinds
 use Rattle.gr_text.specs.Text.{token_at}
 use Rattle.gr_parse.specs.Tok.{Tok, toks}
 use Rattle.gr_parse.specs.Parsing.{Toks}
-use Rattle.gr_parse.specs.Grammar.{IsProgram, IsProgramOf}
-use Rattle.gr_print.specs.Unplaced.{nowhere, unplaced_tok, unplaced_item, unplaced, SameButForPlaces}
-use Rattle.gr_print.specs.Pieces.{Layout, bytes_of}
+use Rattle.gr_parse.specs.Grammar.{IsProgram}
+use Rattle.gr_print.specs.Unplaced.{nowhere, unplaced_tok, unplaced_item, SameButForPlaces}
+use Rattle.gr_print.specs.Pieces.{Layout}
 use Rattle.gr_print.specs.Layout.{program, program_text}
 use Rattle.gr_print.specs.Printed.{IsSubsequence, IsWritten, AreWritten, IsSpelling, IsSpelled, ReadsBack, IsLeast, brackets}
 use Rattle.gr_print.proofs.Apart.{program_apart}

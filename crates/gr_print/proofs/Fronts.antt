@@ -1,25 +1,20 @@
 -- A token in front of what ends it is the longest token there.
-use Rattle.std.proofs.Common.{◌≡◌, ◌≢◌, ℕ, zero, suc, ◌+◌, ◌<◌, ◌≤◌, ◌^◌, Bool, true, false, cond, List, [], ◌∷◌, ◌++◌, length, get_or, take, Option, Some, None, refl, sym, ap, subst, ◌∙◌, arith}
-use Rattle.std.specs.Prelude.{◌==◌, ◌&&◌, ◌||◌, codes}
+use Rattle.std.proofs.Common.{◌≡◌, ℕ, suc, ◌+◌, ◌<◌, ◌≤◌, ◌^◌, Bool, true, false, cond, [], ◌∷◌, ◌++◌, length, get_or, Option, Some, None, refl, sym, ap, ◌∙◌, arith}
+use Rattle.std.specs.Prelude.{◌==◌, ◌||◌}
 use Rattle.std.specs.List.{prefix_len}
 use Rattle.std.specs.Fmt.{decimal}
-use Rattle.std.specs.Str.Parse.{AllDigits, digits_value}
+use Rattle.std.specs.Str.Parse.{AllDigits}
 use Rattle.std.proofs.lemmas.Fmt.{decimal_is_IsNumeral}
 use Rattle.std.proofs.lemmas.Str.Parse.{tells_digits}
 use Rattle.std.proofs.Math.Seq.{take-append_seam}
-use Rattle.gr_lang.specs.declared.syntax.Name.{Name}
-use Rattle.gr_lang.specs.declared.syntax.Number.{Number}
 use Rattle.gr_text.specs.declared.token.Keyword.{Keyword}
-use Rattle.gr_text.specs.declared.token.Keyword.TheVariants as k
 use Rattle.gr_text.specs.declared.token.Sign.{Sign}
 use Rattle.gr_text.specs.declared.token.Sign.TheVariants as s
-use Rattle.gr_text.specs.declared.token.TokenKind.{TokenKind}
 use Rattle.gr_text.specs.declared.token.TokenKind.TheVariants as kinds
 use Rattle.gr_text.specs.Spelling.{keyword_bytes, sign_bytes}
-use Rattle.gr_text.specs.Text.{Text, HasHead, IsLongest, IsToken, Fits, is_letter, is_digit, is_word, are_all, most_name}
+use Rattle.gr_text.specs.Text.{Text, HasHead, IsLongest, IsToken, is_letter, is_digit, is_word, are_all}
 use Rattle.gr_text.specs.Front.{single_sign, double_sign, or_else, front_sign}
 use Rattle.gr_text.proofs.Found.{number_found, keyword_found, name_found}
-use Rattle.gr_text.proofs.Longest.{IsOther, sign_front}
 use Rattle.gr_text.proofs.Runs.{and_first, and_second, and_both, run_more}
 use Rattle.gr_text.proofs.Words.{keyword_head, keyword_letters}
 
@@ -54,7 +49,7 @@ letter_head (b ∷ bytes) rest h = h
 pub keyword_longest : (word : Keyword) (rest : Text) → Stops is_word rest → IsLongest (kinds.Keyword word) (length (keyword_bytes word)) (keyword_bytes word ++ rest)
 keyword_longest word rest h =
     keyword_found (keyword_bytes word ++ rest) (keyword_bytes word) (length (keyword_bytes word)) word (letter_head (keyword_bytes word) rest (keyword_head word))
-      (sym (run_is is_word (keyword_bytes word) rest (keyword_letters word) h)) (sym (take-append_seam (keyword_bytes word) rest)) refl
+    (sym (run_is is_word (keyword_bytes word) rest (keyword_letters word) h)) (sym (take-append_seam (keyword_bytes word) rest)) refl
 
 -- ---- numbers
 
@@ -81,7 +76,7 @@ pub number_longest : (n : ℕ) (rest : Text) → n < 2 ^ 64 → Stops is_digit r
 number_longest n rest small h =
     let digits = decimal_digits n small in
     number_found (decimal n ++ rest) (decimal n) (length (decimal n)) n (digit_head (decimal n) rest (decimal_some n small) digits)
-      (sym (run_is is_digit (decimal n) rest digits h)) (sym (take-append_seam (decimal n) rest)) (sym (decimal_is_IsNumeral n small).1)
+    (sym (run_is is_digit (decimal n) rest digits h)) (sym (take-append_seam (decimal n) rest)) (sym (decimal_is_IsNumeral n small).1)
 
 -- ---- signs
 

@@ -1,5 +1,5 @@
 -- Induction on expressions and on statements.
-use Rattle.std.proofs.Common.{◌≡◌, Bool, List, [], ◌∷◌, map, sym, subst}
+use Rattle.std.proofs.Common.{Bool, List, [], ◌∷◌, map, sym, subst}
 use Rattle.gr_lang.specs.declared.syntax.Name.{Name}
 use Rattle.gr_lang.specs.declared.syntax.Number.{Number}
 use Rattle.gr_lang.specs.declared.syntax.BinOp.{BinOp}

@@ -1,5 +1,5 @@
 -- How each kind of expression and of statement is laid out.
-use Rattle.std.proofs.Common.{◌≡◌, ℕ, zero, suc, ◌+◌, ◌≤◌, ◌<◌, Bool, true, false, cond, List, [], ◌∷◌, ◌++◌, map, refl, sym, ap, ◌∙◌, arith, leb}
+use Rattle.std.proofs.Common.{◌≡◌, ℕ, suc, ◌≤◌, ◌<◌, Bool, true, false, cond, List, [], ◌∷◌, ◌++◌, map, sym, ap, ◌∙◌, arith, leb}
 use Rattle.gr_lang.specs.declared.syntax.Name.{Name}
 use Rattle.gr_lang.specs.declared.syntax.Number.{Number}
 use Rattle.gr_lang.specs.declared.syntax.BinOp.{BinOp}
@@ -18,7 +18,7 @@ use Rattle.gr_text.specs.declared.token.Keyword.TheVariants as k
 use Rattle.gr_text.specs.declared.token.Sign.TheVariants as s
 use Rattle.gr_parse.specs.Tok.{level_of}
 use Rattle.gr_print.specs.Pieces.{Piece, Layout, name, number, sign, key}
-use Rattle.gr_print.specs.Layout.{Shown, shown, expr_step, below, bracketed, joined, expr, call, args, block, else_part, assignment, start, started, range, stmt, stmt_step}
+use Rattle.gr_print.specs.Layout.{Shown, shown, expr_step, below, bracketed, joined, expr, call, block, else_part, assignment, start, started, range, stmt, stmt_step}
 
 -- ---- expressions
 

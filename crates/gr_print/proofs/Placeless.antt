@@ -20,8 +20,8 @@ use Rattle.gr_text.specs.declared.token.Sign.TheVariants as s
 use Rattle.gr_parse.specs.Tok.{level_of}
 use Rattle.gr_print.specs.Unplaced.{unplaced_name, unplaced_number, unplaced_expr, unplaced_call, unplaced_right, unplaced_how, unplaced_stmt, unplaced_item}
 use Rattle.gr_print.specs.Pieces.{Piece, Layout, name, number, key, sign, object}
-use Rattle.gr_print.specs.Layout.{Shown, listed, names, numbers, shown, below, joined, whole, expr, exprs, args, reducer, call, right_side, start, started, range, assignment, line, lines, block, else_part, stmt, item, input, task, program}
-use Rattle.gr_print.proofs.Inductions.{ExprCases, all_exprs, EachOf, StmtCases, all_stmts}
+use Rattle.gr_print.specs.Layout.{Shown, listed, names, numbers, shown, below, joined, whole, expr, exprs, args, reducer, call, right_side, start, started, range, assignment, line, lines, block, else_part, stmt, item, task, program}
+use Rattle.gr_print.proofs.Inductions.{all_exprs, EachOf, all_stmts}
 use Rattle.gr_print.proofs.Layouts.{shown_lit, shown_local, shown_not, shown_two, stmt_set, stmt_do, stmt_print, stmt_if, stmt_while, stmt_finish, stmt_spawn, stmt_forall}
 use Rattle.gr_print.proofs.Samenesses.{bare_lit, bare_local, bare_not, bare_two, bare_set, bare_do, bare_print, bare_if, bare_while, bare_finish, bare_spawn, bare_forall}
 
@@ -134,9 +134,9 @@ stmt_same = all_stmts Same (record {
   while_loop = while_same;
   finish = λ xs h m. same_by m (st.Finish xs) _ _ _ (bare_finish xs) (stmt_finish (map unplaced_stmt xs) m) (stmt_finish xs m) (ap (λ (ps : Layout). key k.Finish ∷ Piece.blank ∷ ps) (block_same xs h m));
   spawn = λ w n xs m. same_by m (st.Spawn w n xs) _ _ _ (bare_spawn w n xs) (stmt_spawn (unplaced_how w) (unplaced_name n) (map unplaced_expr xs) m)
-    (stmt_spawn w n xs m) (ap (λ (ps : Layout). ps ++ started (unplaced_name n) (map unplaced_expr xs)) (start_same w) ∙ ap (λ (ps : Layout). start w ++ ps) (started_same n xs));
+      (stmt_spawn w n xs m) (ap (λ (ps : Layout). ps ++ started (unplaced_name n) (map unplaced_expr xs)) (start_same w) ∙ ap (λ (ps : Layout). start w ++ ps) (started_same n xs));
   forall_loop = λ lo hi grain n xs m. same_by m (st.Forall lo hi grain n xs) _ _ _ (bare_forall lo hi grain n xs) (stmt_forall (unplaced_expr lo) (unplaced_expr hi) (unplaced_expr grain) (unplaced_name n) (map unplaced_expr xs) m)
-    (stmt_forall lo hi grain n xs m) (ap (λ (ps : Layout). ps ++ started (unplaced_name n) (map unplaced_expr xs)) (range_same lo hi grain) ∙ ap (λ (ps : Layout). range lo hi grain ++ ps) (started_same n xs));
+      (stmt_forall lo hi grain n xs m) (ap (λ (ps : Layout). ps ++ started (unplaced_name n) (map unplaced_expr xs)) (range_same lo hi grain) ∙ ap (λ (ps : Layout). range lo hi grain ++ ps) (started_same n xs));
 })
 
 each_same : (xs : List Stmt) → EachOf Same xs

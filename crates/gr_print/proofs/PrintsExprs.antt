@@ -1,5 +1,5 @@
 -- The tokens that are laid out for an expression spell it, in the room of any other spelling of it, and each spelling has them.
-use Rattle.std.proofs.Common.{◌≡◌, ℕ, zero, suc, ◌+◌, ◌-◌, ◌≤◌, ◌<◌, Bool, true, false, cond, List, [], ◌∷◌, ◌++◌, map, refl, sym, ap, subst, ◌∙◌, arith, inl, inr, ◌==◌}
+use Rattle.std.proofs.Common.{◌≡◌, ℕ, zero, suc, ◌+◌, ◌-◌, ◌≤◌, ◌<◌, Bool, true, false, cond, [], ◌∷◌, ◌++◌, map, refl, sym, ap, subst, ◌∙◌, arith, inl, inr, ◌==◌}
 use Rattle.std.proofs.lemmas.List.{map-append}
 use Rattle.std.proofs.lemmas.Bool.{cases_lt}
 use Rattle.gr_lang.specs.declared.syntax.Name.{Name}
@@ -17,7 +17,7 @@ use Rattle.gr_print.specs.Pieces.{Piece, Layout, name, number, sign}
 use Rattle.gr_print.specs.Layout.{Shown, shown, below, bracketed, joined, left_level, expr}
 use Rattle.gr_print.specs.Printed.{IsSubsequence}
 use Rattle.gr_print.proofs.Layouts.{shown_lit, shown_local, shown_not, shown_two, below_bare, below_more}
-use Rattle.gr_print.proofs.Respelled.{Each, each_nil, each_sign, each_name, each_number, each_part, each_last, Respelled, Freely, weaken}
+use Rattle.gr_print.proofs.Respelled.{each_nil, each_sign, each_name, each_number, each_part, each_last, Freely, weaken}
 use Rattle.gr_print.proofs.Samenesses.{same_lit, same_local, same_not, same_two}
 use Rattle.gr_print.proofs.Seen.{tokens_of, tokens_of-append}
 use Rattle.gr_print.proofs.Subsequences as part
@@ -42,9 +42,9 @@ at_zero (IsLevel.unary h) = h
 looser : (d l : ℕ) (ts : Toks) (x : Expr) (n : ℕ) → suc l ≤ 6 → IsUnder d l ts x n → IsUnder d (suc l) ts x n
 looser d l ts x n h (IsUnder.comparison same p) = absurd (omega arith)
 looser d l ts x n h (IsUnder.level low p) = elim (cases_lt l 5) [
-    | inl less ↦ IsUnder.level (omega arith) (IsLevel.tighter p)
-    | inr five ↦ (let same : l ≡ loosest = omega arith in IsUnder.comparison (omega arith) (IsComparison.one (subst (λ (m : ℕ). IsLevel d m ts x n) same p)))
-  ]
+  | inl less ↦ IsUnder.level (omega arith) (IsLevel.tighter p)
+  | inr five ↦ (let same : l ≡ loosest = omega arith in IsUnder.comparison (omega arith) (IsComparison.one (subst (λ (m : ℕ). IsLevel d m ts x n) same p)))
+]
 
 much_looser : (d l : ℕ) (ts : Toks) (x : Expr) (n k : ℕ) → k + l ≤ 6 → IsUnder d l ts x n → IsUnder d (k + l) ts x n
 much_looser d l ts x n zero h p = let same : 0 + l ≡ l = omega arith in subst (λ (m : ℕ). IsUnder d m ts x n) (sym same) p
@@ -93,21 +93,23 @@ tokens_of-bracketed : (ps : Layout) → tokens_of (bracketed ps) ≡ Tok.sign s.
 tokens_of-bracketed ps = ap (λ (ts : Toks). Tok.sign s.LeftParen ∷ ts) (tokens_of-append ps (sign s.RightParen ∷ []))
 
 grouped : (d : ℕ) (ws : Toks) (x : Expr) (n : ℕ) → Spell d 6 ws x n → Spell (suc d) 0 (Tok.sign s.LeftParen ∷ (ws ++ Tok.sign s.RightParen ∷ [])) x n
-grouped d ws x n h = record { each = each_sign s.LeftParen (each_part h (λ f y p same. each_sign s.RightParen (each_nil (record {
-  tree = y;
-  spelled = IsUnder.level (omega arith) (IsLevel.unary (IsUnary.group (as_comparison refl p)));
-  same = same;
-})))) }
+grouped d ws x n h = record {
+  each = each_sign s.LeftParen (each_part h (λ f y p same. each_sign s.RightParen (each_nil (record {
+    tree = y;
+    spelled = IsUnder.level (omega arith) (IsLevel.unary (IsUnary.group (as_comparison refl p)));
+    same = same;
+  }))));
+}
 
 spelled : (d l : ℕ) (ts : Toks) (x : Expr) (n : ℕ) → l ≤ 6 → Prints d l ts x n → Spell d l (tokens_of (below l (shown x))) x n
 spelled d l ts x n h p = elim (cases_lt l (shown x).rank) [
-    | inl lt ↦ let r = p.room lt in
-        let inner : Spell r.0 6 (tokens_of (shown x).bare) x n = weaken (λ us y q. raised r.0 (shown x).rank 6 us y n p.low (omega arith) q) r.2 in
-        let outer : Spell (suc r.0) l (Tok.sign s.LeftParen ∷ (tokens_of (shown x).bare ++ Tok.sign s.RightParen ∷ [])) x n = weaken (λ us y q. raised (suc r.0) 0 l us y n (omega arith) h q) (grouped r.0 (tokens_of (shown x).bare) x n inner) in
-        subst (λ (u : Toks). Spell d l u x n) (sym (ap tokens_of (below_more l (shown x) lt) ∙ tokens_of-bracketed (shown x).bare))
-          (subst (λ (m : ℕ). Spell m l (Tok.sign s.LeftParen ∷ (tokens_of (shown x).bare ++ Tok.sign s.RightParen ∷ [])) x n) (sym r.1) outer)
-    | inr le ↦ subst (λ (u : Toks). Spell d l u x n) (sym (ap tokens_of (below_bare l (shown x) le))) (weaken (λ us y q. raised d (shown x).rank l us y n le h q) p.natural)
-  ]
+  | inl lt ↦ let r = p.room lt in
+      let inner : Spell r.0 6 (tokens_of (shown x).bare) x n = weaken (λ us y q. raised r.0 (shown x).rank 6 us y n p.low (omega arith) q) r.2 in
+      let outer : Spell (suc r.0) l (Tok.sign s.LeftParen ∷ (tokens_of (shown x).bare ++ Tok.sign s.RightParen ∷ [])) x n = weaken (λ us y q. raised (suc r.0) 0 l us y n (omega arith) h q) (grouped r.0 (tokens_of (shown x).bare) x n inner) in
+      subst (λ (u : Toks). Spell d l u x n) (sym (ap tokens_of (below_more l (shown x) lt) ∙ tokens_of-bracketed (shown x).bare))
+      (subst (λ (m : ℕ). Spell m l (Tok.sign s.LeftParen ∷ (tokens_of (shown x).bare ++ Tok.sign s.RightParen ∷ [])) x n) (sym r.1) outer)
+  | inr le ↦ subst (λ (u : Toks). Spell d l u x n) (sym (ap tokens_of (below_bare l (shown x) le))) (weaken (λ us y q. raised d (shown x).rank l us y n le h q) p.natural)
+]
 
 -- The same, by an equation for what is laid out.
 prints_as : (d l : ℕ) (ts : Toks) (x : Expr) (n : ℕ) (w : Shown) → shown x ≡ w → w.rank ≤ l → w.rank ≤ 6 → Spell d w.rank (tokens_of w.bare) x n → IsSubsequence (tokens_of w.bare) (map unplaced_tok ts) → Prints d l ts x n
@@ -127,26 +129,26 @@ bare_part ps = subst (IsSubsequence (tokens_of ps)) (sym (tokens_of-bracketed ps
 -- Fewer brackets where more may stand without them.
 fewer : (l : ℕ) (x : Shown) → IsSubsequence (tokens_of (below (suc l) x)) (tokens_of (below l x))
 fewer l x = elim (cases_lt l x.rank) [
-    | inl lt ↦ subst (λ (ps : Layout). IsSubsequence (tokens_of (below (suc l) x)) (tokens_of ps)) (sym (below_more l x lt)) (elim (cases_lt (suc l) x.rank) [
-        | inl lt2 ↦ subst (λ (ps : Layout). IsSubsequence (tokens_of ps) (tokens_of (bracketed x.bare))) (sym (below_more (suc l) x lt2)) (part.whole (tokens_of (bracketed x.bare)))
-        | inr le ↦ subst (λ (ps : Layout). IsSubsequence (tokens_of ps) (tokens_of (bracketed x.bare))) (sym (below_bare (suc l) x le)) (bare_part x.bare)
-      ])
-    | inr le ↦ subst (λ (ps : Layout). IsSubsequence (tokens_of (below (suc l) x)) (tokens_of ps)) (sym (below_bare l x le))
-        (subst (λ (ps : Layout). IsSubsequence (tokens_of ps) (tokens_of x.bare)) (sym (below_bare (suc l) x (omega arith))) (part.whole (tokens_of x.bare)))
-  ]
+  | inl lt ↦ subst (λ (ps : Layout). IsSubsequence (tokens_of (below (suc l) x)) (tokens_of ps)) (sym (below_more l x lt)) (elim (cases_lt (suc l) x.rank) [
+    | inl lt2 ↦ subst (λ (ps : Layout). IsSubsequence (tokens_of ps) (tokens_of (bracketed x.bare))) (sym (below_more (suc l) x lt2)) (part.whole (tokens_of (bracketed x.bare)))
+    | inr le ↦ subst (λ (ps : Layout). IsSubsequence (tokens_of ps) (tokens_of (bracketed x.bare))) (sym (below_bare (suc l) x le)) (bare_part x.bare)
+  ])
+  | inr le ↦ subst (λ (ps : Layout). IsSubsequence (tokens_of (below (suc l) x)) (tokens_of ps)) (sym (below_bare l x le))
+      (subst (λ (ps : Layout). IsSubsequence (tokens_of ps) (tokens_of x.bare)) (sym (below_bare (suc l) x (omega arith))) (part.whole (tokens_of x.bare)))
+]
 
 -- At most one pair of brackets is around the bare layout.
 at_most_grouped : (l : ℕ) (x : Shown) → IsSubsequence (tokens_of (below l x)) (tokens_of (bracketed x.bare))
 at_most_grouped l x = elim (cases_lt l x.rank) [
-    | inl lt ↦ subst (λ (ps : Layout). IsSubsequence (tokens_of ps) (tokens_of (bracketed x.bare))) (sym (below_more l x lt)) (part.whole (tokens_of (bracketed x.bare)))
-    | inr le ↦ subst (λ (ps : Layout). IsSubsequence (tokens_of ps) (tokens_of (bracketed x.bare))) (sym (below_bare l x le)) (bare_part x.bare)
-  ]
+  | inl lt ↦ subst (λ (ps : Layout). IsSubsequence (tokens_of ps) (tokens_of (bracketed x.bare))) (sym (below_more l x lt)) (part.whole (tokens_of (bracketed x.bare)))
+  | inr le ↦ subst (λ (ps : Layout). IsSubsequence (tokens_of ps) (tokens_of (bracketed x.bare))) (sym (below_bare l x le)) (bare_part x.bare)
+]
 
 group_case : (d : ℕ) (ts : Toks) (x : Expr) (n : ℕ) → Prints d 6 ts x n → Prints (suc d) 0 (Tok.sign s.LeftParen ∷ (ts ++ Tok.sign s.RightParen ∷ [])) x n
 group_case d ts x n p =
     let inner : IsSubsequence (tokens_of (shown x).bare) (map unplaced_tok ts) = subst (λ (ps : Layout). IsSubsequence (tokens_of ps) (map unplaced_tok ts)) (below_bare 6 (shown x) p.low) p.within in
     let outer : IsSubsequence (tokens_of (bracketed (shown x).bare)) (Tok.sign s.LeftParen ∷ (map unplaced_tok ts ++ Tok.sign s.RightParen ∷ [])) =
-      subst (λ (us : Toks). IsSubsequence us (Tok.sign s.LeftParen ∷ (map unplaced_tok ts ++ Tok.sign s.RightParen ∷ []))) (sym (tokens_of-bracketed (shown x).bare)) (IsSubsequence.kept (part.joined inner (part.whole (Tok.sign s.RightParen ∷ [])))) in
+    subst (λ (us : Toks). IsSubsequence us (Tok.sign s.LeftParen ∷ (map unplaced_tok ts ++ Tok.sign s.RightParen ∷ []))) (sym (tokens_of-bracketed (shown x).bare)) (IsSubsequence.kept (part.joined inner (part.whole (Tok.sign s.RightParen ∷ [])))) in
     record {
       low = p.low;
       natural = weaken (λ us y q. roomy q) p.natural;
@@ -164,11 +166,13 @@ looser_case d l ts x n p = record {
 
 not_case : (d : ℕ) (ts : Toks) (x : Expr) (n : ℕ) → Prints d 0 ts x n → Prints (suc d) 0 (Tok.sign s.Bang ∷ ts) (e.Not x) n
 not_case d ts x n p = prints_as (suc d) 0 (Tok.sign s.Bang ∷ ts) (e.Not x) n (record { rank = 0; bare = sign s.Bang ∷ below 0 (shown x) }) (shown_not x) (omega arith) (omega arith)
-    (record { each = each_sign s.Bang (each_last (spelled d 0 ts x n (omega arith) p) (λ f y q same. record {
-      tree = e.Not y;
-      spelled = IsUnder.level (omega arith) (IsLevel.unary (IsUnary.not (at_zero (as_level (omega arith) q))));
-      same = same_not y x same;
-    })) })
+    (record {
+      each = each_sign s.Bang (each_last (spelled d 0 ts x n (omega arith) p) (λ f y q same. record {
+        tree = e.Not y;
+        spelled = IsUnder.level (omega arith) (IsLevel.unary (IsUnary.not (at_zero (as_level (omega arith) q))));
+        same = same_not y x same;
+      }));
+    })
     (IsSubsequence.kept p.within)
 
 -- Two operands below these levels, as the grammar puts them together.
@@ -199,14 +203,16 @@ two_case d o a b x y n m low joins p q =
     let other = below (level_of o) (shown y) in
     let parts : tokens_of (joined o (shown x) (shown y)) ≡ tokens_of one ++ Tok.sign (sign_of o) ∷ tokens_of other = tokens_of-append one (Piece.blank ∷ sign (sign_of o) ∷ Piece.blank ∷ other) in
     prints_as d (suc (level_of o)) (a ++ Tok.sign (sign_of o) ∷ b) (e.Two o x y) (suc (n + m)) (record { rank = suc (level_of o); bare = joined o (shown x) (shown y) }) (shown_two o x y) (omega arith) (omega arith)
-      (subst (λ (u : Toks). Spell d (suc (level_of o)) u (e.Two o x y) (suc (n + m))) (sym parts)
-        (record { each = each_part (spelled d (left_level (level_of o)) a x n low p) (λ f z g same. each_sign (sign_of o) (each_last (spelled d (level_of o) b y m (omega arith) q) (λ h w k alike. record {
-          tree = e.Two o z w;
-          spelled = joins f h z w n m g k;
-          same = same_two o z w x y same alike;
-        }))) }))
-      (subst (λ (u : Toks). IsSubsequence u (map unplaced_tok (a ++ Tok.sign (sign_of o) ∷ b))) (sym parts)
-        (subst (IsSubsequence (tokens_of one ++ Tok.sign (sign_of o) ∷ tokens_of other)) (sym (map-append unplaced_tok a (Tok.sign (sign_of o) ∷ b))) (part.joined p.within (IsSubsequence.kept q.within))))
+    (subst (λ (u : Toks). Spell d (suc (level_of o)) u (e.Two o x y) (suc (n + m))) (sym parts)
+    (record {
+      each = each_part (spelled d (left_level (level_of o)) a x n low p) (λ f z g same. each_sign (sign_of o) (each_last (spelled d (level_of o) b y m (omega arith) q) (λ h w k alike. record {
+        tree = e.Two o z w;
+        spelled = joins f h z w n m g k;
+        same = same_two o z w x y same alike;
+      })));
+    }))
+    (subst (λ (u : Toks). IsSubsequence u (map unplaced_tok (a ++ Tok.sign (sign_of o) ∷ b))) (sym parts)
+    (subst (IsSubsequence (tokens_of one ++ Tok.sign (sign_of o) ∷ tokens_of other)) (sym (map-append unplaced_tok a (Tok.sign (sign_of o) ∷ b))) (part.joined p.within (IsSubsequence.kept q.within))))
 
 left_low : (l : ℕ) → l ≤ 4 → left_level l ≡ suc l
 left_low l h = let other : (l == loosest) ≡ false = grind arith in ap (λ (v : Bool). cond v loosest (suc l)) other
@@ -229,17 +235,17 @@ joins_comparison d o h a b x y n m p q =
 two_with : (d l : ℕ) (o : BinOp) (a b : Toks) (x y : Expr) (n m : ℕ) → level_of o ≡ l → suc l ≤ 5 → Prints d (suc l) a x n → Prints d l b y m → Prints d (suc l) (a ++ Tok.sign (sign_of o) ∷ b) (e.Two o x y) (suc (n + m))
 two_with d l o a b x y n m same low p q =
     subst (λ (k : ℕ). suc k ≤ 5 → Prints d (suc k) a x n → Prints d k b y m → Prints d (suc k) (a ++ Tok.sign (sign_of o) ∷ b) (e.Two o x y) (suc (n + m))) same
-      (λ h p q.
-        let left = left_low (level_of o) (omega arith) in
-        two_case d o a b x y n m (omega arith) (joins_level d o (omega arith)) (subst (λ (k : ℕ). Prints d k a x n) (sym left) p) q)
-      low p q
+    (λ h p q.
+    let left = left_low (level_of o) (omega arith) in
+    two_case d o a b x y n m (omega arith) (joins_level d o (omega arith)) (subst (λ (k : ℕ). Prints d k a x n) (sym left) p) q)
+    low p q
 
 compared_with : (d : ℕ) (o : BinOp) (a b : Toks) (x y : Expr) (n m : ℕ) → level_of o ≡ loosest → Prints d loosest a x n → Prints d loosest b y m → Prints d 6 (a ++ Tok.sign (sign_of o) ∷ b) (e.Two o x y) (suc (n + m))
 compared_with d o a b x y n m same p q =
     let left = left_same (level_of o) same in
     let six : suc (level_of o) ≡ 6 = omega arith in
     subst (λ (k : ℕ). Prints d k (a ++ Tok.sign (sign_of o) ∷ b) (e.Two o x y) (suc (n + m))) six
-      (two_case d o a b x y n m (omega arith) (joins_comparison d o same) (subst (λ (k : ℕ). Prints d k a x n) (sym left) p) (subst (λ (k : ℕ). Prints d k b y m) (sym same) q))
+    (two_case d o a b x y n m (omega arith) (joins_comparison d o same) (subst (λ (k : ℕ). Prints d k a x n) (sym left) p) (subst (λ (k : ℕ). Prints d k b y m) (sym same) q))
 
 number_case : (d : ℕ) (v : Number) → Prints d 0 (Tok.number v ∷ []) (e.Lit v) 0
 number_case d v = prints_as d 0 (Tok.number v ∷ []) (e.Lit v) 0 (record { rank = 0; bare = number v ∷ [] }) (shown_lit v) (omega arith) (omega arith)

@@ -1,5 +1,5 @@
 -- The tokens that are laid out for items and programs spell them, and each spelling has them.
-use Rattle.std.proofs.Common.{◌≡◌, ℕ, List, [], ◌∷◌, ◌++◌, map, refl, sym, ap, subst, ◌∙◌, append_assoc}
+use Rattle.std.proofs.Common.{◌≡◌, List, [], ◌∷◌, ◌++◌, map, refl, sym, ap, subst, ◌∙◌, append_assoc}
 use Rattle.std.proofs.lemmas.List.{map-append}
 use Rattle.gr_meets.specs.Lists.{Repeated, Separated, Enclosed}
 use Rattle.gr_lang.specs.declared.syntax.Name.{Name}
@@ -12,7 +12,7 @@ use Rattle.gr_text.specs.declared.token.Keyword.TheVariants as k
 use Rattle.gr_text.specs.declared.token.Sign.TheVariants as s
 use Rattle.gr_parse.specs.Tok.{Tok}
 use Rattle.gr_parse.specs.Parsing.{Toks, max_nesting}
-use Rattle.gr_parse.specs.Grammar.{IsName, IsNumber, IsBlock, IsItem, IsProgram}
+use Rattle.gr_parse.specs.Grammar.{IsName, IsNumber, IsItem, IsProgram}
 use Rattle.gr_print.specs.Unplaced.{nowhere, unplaced_name, unplaced_number, unplaced_tok, unplaced_stmt, unplaced_item}
 use Rattle.gr_print.specs.Pieces.{Piece, Layout, name, number, key, sign}
 use Rattle.gr_print.specs.Layout.{names, numbers, block, stmt, item, input, task, program}
@@ -20,19 +20,21 @@ use Rattle.gr_print.specs.Printed.{IsSubsequence, AreWritten}
 use Rattle.gr_print.proofs.PrintsExprs.{Written}
 use Rattle.gr_print.proofs.PrintsLists.{separated_written, enclosed_written, name_written, number_written}
 use Rattle.gr_print.proofs.PrintsStmts.{BlockWritten, block_written, front_written, behind_written, each_then, within_then}
-use Rattle.gr_print.proofs.Respelled.{Each, each_nil, each_sign, each_key, each_name, each_number, each_heap, each_part, each_last, Freely}
-use Rattle.gr_print.proofs.Seen.{tokens_of, tokens_of-append, tokens_of-line}
+use Rattle.gr_print.proofs.Respelled.{each_nil, each_sign, each_key, each_name, each_number, each_heap, each_part, each_last, Freely}
+use Rattle.gr_print.proofs.Seen.{tokens_of, tokens_of-line}
 use Rattle.gr_print.proofs.Subsequences as part
 
 -- ---- items
 
 array_case : (n : Name) (w : Number) → let ts = Tok.key k.Array ∷ Tok.name n ∷ Tok.sign s.LeftBracket ∷ Tok.number w ∷ Tok.sign s.RightBracket ∷ Tok.sign s.Semicolon ∷ [] in Written unplaced_item IsItem (item (items.Array n w)) ts (items.Array n w)
 array_case n w = record {
-  spelled = record { each = each_key k.Array (each_name n (λ m same. each_sign s.LeftBracket (each_number w (λ v alike. each_sign s.RightBracket (each_sign s.Semicolon (each_nil (record {
-    tree = items.Array m v;
-    spelled = IsItem.array;
-    same = ap (λ (z : Name). items.Array z (unplaced_number v)) same ∙ ap (λ (z : Number). items.Array (unplaced_name n) z) alike;
-  }))))))) };
+  spelled = record {
+    each = each_key k.Array (each_name n (λ m same. each_sign s.LeftBracket (each_number w (λ v alike. each_sign s.RightBracket (each_sign s.Semicolon (each_nil (record {
+      tree = items.Array m v;
+      spelled = IsItem.array;
+      same = ap (λ (z : Name). items.Array z (unplaced_number v)) same ∙ ap (λ (z : Number). items.Array (unplaced_name n) z) alike;
+    })))))));
+  };
   within = part.whole _;
 }
 
@@ -54,11 +56,13 @@ input_case : (n : Name) (ts : Toks) (ws : List Number) → Separated (Tok.sign s
 input_case n ts ws p =
     let w = separated_written unplaced_number IsNumber (λ v. number v ∷ []) number_written p in
     record {
-      spelled = record { each = each_key k.Input (each_name n (λ m same. each_sign s.Assign (each_then (numbers ws) (sign s.Semicolon ∷ []) w.spelled (λ f vs q alike. each_sign s.Semicolon (each_nil (record {
-        tree = items.Input m vs;
-        spelled = IsItem.input q;
-        same = ap (λ (z : Name). items.Input z (map unplaced_number vs)) same ∙ ap (λ (zs : List Number). items.Input (unplaced_name n) zs) alike;
-      })))))) };
+      spelled = record {
+        each = each_key k.Input (each_name n (λ m same. each_sign s.Assign (each_then (numbers ws) (sign s.Semicolon ∷ []) w.spelled (λ f vs q alike. each_sign s.Semicolon (each_nil (record {
+          tree = items.Input m vs;
+          spelled = IsItem.input q;
+          same = ap (λ (z : Name). items.Input z (map unplaced_number vs)) same ∙ ap (λ (zs : List Number). items.Input (unplaced_name n) zs) alike;
+        }))))));
+      };
       within = IsSubsequence.kept (IsSubsequence.kept (IsSubsequence.kept (within_then (numbers ws) (sign s.Semicolon ∷ []) ts (Tok.sign s.Semicolon ∷ []) w.within (part.whole (Tok.sign s.Semicolon ∷ [])))));
     }
 
@@ -70,12 +74,14 @@ task_case n ts us ps xs p b =
     let rest = Piece.blank ∷ block (map stmt xs) 0 in
     let laid : front ++ rest ≡ names ps ++ (sign s.RightParen ∷ rest) = append_assoc (names ps) (sign s.RightParen ∷ []) rest in
     subst (λ (qs : Layout). Written unplaced_item IsItem (key k.Task ∷ Piece.blank ∷ name n ∷ sign s.LeftParen ∷ qs) (Tok.key k.Task ∷ Tok.name n ∷ Tok.sign s.LeftParen ∷ (ts ++ us)) (items.Task n ps xs)) laid (record {
-      spelled = record { each = each_key k.Task (each_name n (λ m same. each_sign s.LeftParen (each_then front rest w.spelled (λ f qs q alike. each_last (b.at 0).spelled (λ g ys r eq. record {
-        tree = items.Task m qs ys;
-        spelled = IsItem.task q r;
-        same = ap (λ (z : Name). items.Task z (map unplaced_name qs) (map unplaced_stmt ys)) same ∙ ap (λ (zs : List Name). items.Task (unplaced_name n) zs (map unplaced_stmt ys)) alike
-          ∙ ap (λ (zs : List Stmt). items.Task (unplaced_name n) (map unplaced_name ps) zs) eq;
-      }))))) };
+      spelled = record {
+        each = each_key k.Task (each_name n (λ m same. each_sign s.LeftParen (each_then front rest w.spelled (λ f qs q alike. each_last (b.at 0).spelled (λ g ys r eq. record {
+          tree = items.Task m qs ys;
+          spelled = IsItem.task q r;
+          same = ap (λ (z : Name). items.Task z (map unplaced_name qs) (map unplaced_stmt ys)) same ∙ ap (λ (zs : List Name). items.Task (unplaced_name n) zs (map unplaced_stmt ys)) alike
+              ∙ ap (λ (zs : List Stmt). items.Task (unplaced_name n) (map unplaced_name ps) zs) eq;
+        })))));
+      };
       within = IsSubsequence.kept (IsSubsequence.kept (IsSubsequence.kept (within_then front rest ts us w.within (b.at 0).within)));
     })
 
@@ -95,13 +101,15 @@ more_case : (ts us : Toks) (x : Item) (xs : List Item) → Written unplaced_item
 more_case ts us x xs a b =
     let seen = tokens_of-line 0 (item x) (program xs) in
     record {
-      spelled = subst (λ (u : Toks). Freely (map unplaced_item) IsProgram u (x ∷ xs)) (sym seen) (record { each = each_part a.spelled (λ f y p same. each_last b.spelled (λ g ys q alike. record {
-        tree = y ∷ ys;
-        spelled = Repeated.one_more p q;
-        same = ap (λ (z : Item). z ∷ map unplaced_item ys) same ∙ ap (λ (zs : List Item). unplaced_item x ∷ zs) alike;
-      })) });
+      spelled = subst (λ (u : Toks). Freely (map unplaced_item) IsProgram u (x ∷ xs)) (sym seen) (record {
+        each = each_part a.spelled (λ f y p same. each_last b.spelled (λ g ys q alike. record {
+          tree = y ∷ ys;
+          spelled = Repeated.one_more p q;
+          same = ap (λ (z : Item). z ∷ map unplaced_item ys) same ∙ ap (λ (zs : List Item). unplaced_item x ∷ zs) alike;
+        }));
+      });
       within = subst (λ (u : Toks). IsSubsequence u (map unplaced_tok (ts ++ us))) (sym seen)
-        (subst (IsSubsequence (tokens_of (item x) ++ tokens_of (program xs))) (sym (map-append unplaced_tok ts us)) (part.joined a.within b.within));
+          (subst (IsSubsequence (tokens_of (item x) ++ tokens_of (program xs))) (sym (map-append unplaced_tok ts us)) (part.joined a.within b.within));
     }
 
 -- The tokens of a program's layout spell it wherever their places are, and are among those of each spelling.

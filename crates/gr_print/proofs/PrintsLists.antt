@@ -1,5 +1,5 @@
 -- The tokens that are laid out for lists, arguments and calls spell them, and each spelling has them.
-use Rattle.std.proofs.Common.{◌≡◌, ℕ, suc, Bool, true, false, cond, List, [], ◌∷◌, ◌++◌, map, Option, Some, None, refl, sym, ap, subst, ◌∙◌}
+use Rattle.std.proofs.Common.{◌≡◌, ℕ, suc, Bool, true, false, List, [], ◌∷◌, ◌++◌, map, Option, Some, None, refl, sym, ap, subst, ◌∙◌}
 use Rattle.std.specs.Prelude.{codes, if◌then◌else◌}
 use Rattle.std.specs.Option.{option_map}
 use Rattle.std.specs.Str.{bytes_eq}
@@ -14,18 +14,17 @@ use Rattle.gr_text.specs.declared.token.Keyword.TheVariants as k
 use Rattle.gr_text.specs.declared.token.Sign.TheVariants as s
 use Rattle.gr_text.specs.declared.token.TokenKind.TheVariants as kinds
 use Rattle.gr_text.specs.Text.{IsToken}
-use Rattle.gr_parse.specs.Tok.{Tok, heap_name}
+use Rattle.gr_parse.specs.Tok.{Tok}
 use Rattle.gr_parse.specs.Parsing.{Toks, call_of}
 use Rattle.gr_parse.specs.Grammar.{IsExpr, IsName, IsNumber, IsArgs, IsObject, IsOperation, IsCall}
 use Rattle.gr_print.specs.Unplaced.{nowhere, unplaced_name, unplaced_number, unplaced_tok, unplaced_expr, unplaced_call}
 use Rattle.gr_print.specs.Pieces.{Piece, Layout, name, number, sign, object_tok}
-use Rattle.gr_print.specs.Layout.{behind, listed, expr, exprs, args, call}
+use Rattle.gr_print.specs.Layout.{behind, listed, expr, args, call}
 use Rattle.gr_print.specs.Printed.{IsSubsequence, IsWritten, AreWritten}
 use Rattle.gr_print.proofs.PrintsExprs.{Written, expr_written}
-use Rattle.gr_print.proofs.Respelled.{Each, each_nil, each_sign, each_name, each_number, each_object, each_part, each_last, Freely}
+use Rattle.gr_print.proofs.Respelled.{each_nil, each_sign, each_name, each_number, each_object, each_part, each_last, Freely}
 use Rattle.gr_print.proofs.Seen.{tokens_of, tokens_of-append}
 use Rattle.gr_print.proofs.Subsequences as part
-
 
 -- ---- lists
 
@@ -47,7 +46,7 @@ module _ {A : Type 0} (bare : A → A) (E : Toks → A → Type 0) (lay : A → 
   before_case ts us x xs h k v =
       let w = each ts x h in
       let seen : tokens_of (lay x ++ behind (map lay xs)) ≡ tokens_of (lay x) ++ Tok.sign s.Comma ∷ tokens_of (listed (map lay xs)) =
-        ap (λ (ps : Layout). tokens_of (lay x ++ ps)) (behind_comma k) ∙ tokens_of-append (lay x) (sign s.Comma ∷ Piece.blank ∷ listed (map lay xs)) in
+      ap (λ (ps : Layout). tokens_of (lay x ++ ps)) (behind_comma k) ∙ tokens_of-append (lay x) (sign s.Comma ∷ Piece.blank ∷ listed (map lay xs)) in
       record {
         spelled = subst (λ (u : Toks). Freely (map bare) (Separated (Tok.sign s.Comma) E) u (x ∷ xs)) (sym seen) (record {
           each = each_part w.spelled (λ f y p same. each_sign s.Comma (each_last v.spelled (λ g ys q alike. record {
@@ -57,7 +56,7 @@ module _ {A : Type 0} (bare : A → A) (E : Toks → A → Type 0) (lay : A → 
           })));
         });
         within = subst (λ (u : Toks). IsSubsequence u (map unplaced_tok (ts ++ Tok.sign s.Comma ∷ us))) (sym seen)
-          (subst (IsSubsequence (tokens_of (lay x) ++ Tok.sign s.Comma ∷ tokens_of (listed (map lay xs)))) (sym (map-append unplaced_tok ts (Tok.sign s.Comma ∷ us))) (part.joined w.within (IsSubsequence.kept v.within)));
+            (subst (IsSubsequence (tokens_of (lay x) ++ Tok.sign s.Comma ∷ tokens_of (listed (map lay xs)))) (sym (map-append unplaced_tok ts (Tok.sign s.Comma ∷ us))) (part.joined w.within (IsSubsequence.kept v.within)));
       }
 
   pub separated_written : {ts : Toks} {xs : List A} → Separated (Tok.sign s.Comma) E ts xs → Written (map bare) (Separated (Tok.sign s.Comma) E) (listed (map lay xs)) ts xs
@@ -73,7 +72,7 @@ module _ {A : Type 0} (bare : A → A) (E : Toks → A → Type 0) (lay : A → 
           each = each_part w.spelled (λ f ys p same. each_sign s.RightParen (each_nil (record { tree = ys; spelled = Enclosed.some p; same = same })));
         });
         within = subst (λ (u : Toks). IsSubsequence u (map unplaced_tok (ts ++ Tok.sign s.RightParen ∷ []))) (sym seen)
-          (subst (IsSubsequence (tokens_of (listed (map lay xs)) ++ Tok.sign s.RightParen ∷ [])) (sym (map-append unplaced_tok ts (Tok.sign s.RightParen ∷ []))) (part.joined w.within (part.whole (Tok.sign s.RightParen ∷ []))));
+            (subst (IsSubsequence (tokens_of (listed (map lay xs)) ++ Tok.sign s.RightParen ∷ [])) (sym (map-append unplaced_tok ts (Tok.sign s.RightParen ∷ []))) (part.joined w.within (part.whole (Tok.sign s.RightParen ∷ []))));
       }
 
   pub enclosed_written : {ts : Toks} {xs : List A} → Enclosed (Tok.sign s.RightParen) (Tok.sign s.Comma) E ts xs
@@ -137,13 +136,15 @@ plain_case : (d : ℕ) (t : Tok) (o n : Name) (ts : Toks) (xs : List Expr) → I
 plain_case d t o n ts xs p q h =
     let w = args_written q h.1.1.1 in
     record {
-      spelled = record { each = each_object o (λ u m g same. each_sign s.Dot (each_name n (λ r alike. each_last w.spelled (λ f ys z eq. record {
-        tree = call_of m r None ys;
-        spelled = IsCall.call g (IsOperation.plain z);
-        same = same_call m r None ys o n None xs same alike refl eq;
-      })))) };
+      spelled = record {
+        each = each_object o (λ u m g same. each_sign s.Dot (each_name n (λ r alike. each_last w.spelled (λ f ys z eq. record {
+          tree = call_of m r None ys;
+          spelled = IsCall.call g (IsOperation.plain z);
+          same = same_call m r None ys o n None xs same alike refl eq;
+        }))));
+      };
       within = subst (λ (u : Tok). IsSubsequence (object_tok o ∷ Tok.sign s.Dot ∷ Tok.name (unplaced_name n) ∷ tokens_of (args xs)) (u ∷ Tok.sign s.Dot ∷ Tok.name (unplaced_name n) ∷ map unplaced_tok ts)) (sym (object_seen p h.0))
-        (IsSubsequence.kept (IsSubsequence.kept (IsSubsequence.kept w.within)));
+          (IsSubsequence.kept (IsSubsequence.kept (IsSubsequence.kept w.within)));
     }
 
 reducing_case : (d : ℕ) (t : Tok) (o n by : Name) (ts : Toks) (xs : List Expr) → IsObject t o → IsArgs d ts xs → AreWritten (t ∷ Tok.sign s.Dot ∷ Tok.name n ∷ Tok.name by ∷ ts)
@@ -151,13 +152,15 @@ reducing_case : (d : ℕ) (t : Tok) (o n by : Name) (ts : Toks) (xs : List Expr)
 reducing_case d t o n by ts xs p q h =
     let w = args_written q h.1.1.1.1 in
     record {
-      spelled = record { each = each_object o (λ u m g same. each_sign s.Dot (each_name n (λ r alike. each_name by (λ v like. each_last w.spelled (λ f ys z eq. record {
-        tree = call_of m r (Some v) ys;
-        spelled = IsCall.call g (IsOperation.reducing z);
-        same = same_call m r (Some v) ys o n (Some by) xs same alike (ap (λ (c : Name). Some c) like) eq;
-      }))))) };
+      spelled = record {
+        each = each_object o (λ u m g same. each_sign s.Dot (each_name n (λ r alike. each_name by (λ v like. each_last w.spelled (λ f ys z eq. record {
+          tree = call_of m r (Some v) ys;
+          spelled = IsCall.call g (IsOperation.reducing z);
+          same = same_call m r (Some v) ys o n (Some by) xs same alike (ap (λ (c : Name). Some c) like) eq;
+        })))));
+      };
       within = subst (λ (u : Tok). IsSubsequence (object_tok o ∷ Tok.sign s.Dot ∷ Tok.name (unplaced_name n) ∷ Tok.name (unplaced_name by) ∷ tokens_of (args xs)) (u ∷ Tok.sign s.Dot ∷ Tok.name (unplaced_name n) ∷ Tok.name (unplaced_name by) ∷ map unplaced_tok ts))
-        (sym (object_seen p h.0)) (IsSubsequence.kept (IsSubsequence.kept (IsSubsequence.kept (IsSubsequence.kept w.within))));
+          (sym (object_seen p h.0)) (IsSubsequence.kept (IsSubsequence.kept (IsSubsequence.kept (IsSubsequence.kept w.within))));
     }
 
 pub call_written : {d : ℕ} {ts : Toks} {c : CallText} → IsCall d ts c → AreWritten ts → Written unplaced_call (IsCall d) (call c) ts c

@@ -1,5 +1,5 @@
 -- The tokens that are laid out for statements and blocks spell them, and each spelling has them.
-use Rattle.std.proofs.Common.{◌≡◌, ℕ, suc, ◌+◌, Bool, true, false, List, [], ◌∷◌, ◌++◌, map, replicate, None, refl, sym, ap, subst, ◌∙◌, append_assoc}
+use Rattle.std.proofs.Common.{◌≡◌, ℕ, suc, ◌+◌, Bool, true, false, List, [], ◌∷◌, ◌++◌, map, replicate, refl, sym, ap, subst, ◌∙◌, append_assoc}
 use Rattle.std.proofs.lemmas.List.{map-append, append-nil}
 use Rattle.gr_lang.specs.declared.syntax.Name.{Name}
 use Rattle.gr_lang.specs.declared.syntax.Expr.{Expr}
@@ -11,15 +11,14 @@ use Rattle.gr_lang.specs.declared.syntax.HowText.TheVariants as how
 use Rattle.gr_lang.specs.declared.syntax.Stmt.{Stmt}
 use Rattle.gr_lang.specs.declared.syntax.Stmt.TheVariants as st
 use Rattle.gr_text.specs.declared.token.Keyword.TheVariants as k
-use Rattle.gr_text.specs.declared.token.Sign.{Sign}
 use Rattle.gr_text.specs.declared.token.Sign.TheVariants as s
 use Rattle.gr_parse.specs.Tok.{Tok}
 use Rattle.gr_parse.specs.Parsing.{Toks}
 use Rattle.gr_parse.specs.Grammar.{IsExpr, IsArgs, IsCall, IsRight, IsAssignment, IsHow, IsStmt, IsBlock, IsStmts}
 use Rattle.gr_print.specs.Unplaced.{unplaced_name, unplaced_tok, unplaced_expr, unplaced_call, unplaced_right, unplaced_how, unplaced_stmt}
-use Rattle.gr_print.specs.Pieces.{Piece, Layout, name, key, sign}
-use Rattle.gr_print.specs.Layout.{names, expr, args, call, right_side, start, started, range, let_word, assignment, line, lines, block, else_part, stmt}
-use Rattle.gr_print.specs.Printed.{IsSubsequence, IsWritten, AreWritten}
+use Rattle.gr_print.specs.Pieces.{Piece, Layout, key, sign}
+use Rattle.gr_print.specs.Layout.{names, expr, args, call, right_side, start, started, range, lines, block, stmt}
+use Rattle.gr_print.specs.Printed.{IsSubsequence, AreWritten}
 use Rattle.gr_print.proofs.Layouts.{stmt_set, stmt_do, stmt_print, stmt_if, stmt_while, stmt_finish, stmt_spawn, stmt_forall}
 use Rattle.gr_print.proofs.PrintsExprs.{Written, expr_written}
 use Rattle.gr_print.proofs.PrintsLists.{args_written, call_written}
@@ -46,7 +45,7 @@ each_then {K} ps qs h go = subst (Each K) (sym (tokens_of-append ps qs)) (each_p
 pub within_then : (ps qs : Layout) (ts us : Toks) → IsSubsequence (tokens_of ps) (map unplaced_tok ts) → IsSubsequence (tokens_of qs) (map unplaced_tok us) → IsSubsequence (tokens_of (ps ++ qs)) (map unplaced_tok (ts ++ us))
 within_then ps qs ts us h k =
     subst (λ (u : Toks). IsSubsequence u (map unplaced_tok (ts ++ us))) (sym (tokens_of-append ps qs))
-      (subst (IsSubsequence (tokens_of ps ++ tokens_of qs)) (sym (map-append unplaced_tok ts us)) (part.joined h k))
+    (subst (IsSubsequence (tokens_of ps ++ tokens_of qs)) (sym (map-append unplaced_tok ts us)) (part.joined h k))
 
 abbrev semicolon : Layout
 semicolon = sign s.Semicolon ∷ []
@@ -83,11 +82,13 @@ one_case d fresh n ts r p h =
       value = r;
       is = refl;
       written = record {
-        spelled = record { each = each_name n (λ m same. each_sign s.Assign (each_then (right_side r) semicolon w.spelled (λ f q g alike. each_sign s.Semicolon (each_nil (record {
-          tree = st.Set1 fresh (m ∷ []) q;
-          spelled = IsAssignment.one g;
-          same = same_set fresh (m ∷ []) (n ∷ []) q r (ap (λ (z : Name). z ∷ []) same) alike;
-        }))))) };
+        spelled = record {
+          each = each_name n (λ m same. each_sign s.Assign (each_then (right_side r) semicolon w.spelled (λ f q g alike. each_sign s.Semicolon (each_nil (record {
+            tree = st.Set1 fresh (m ∷ []) q;
+            spelled = IsAssignment.one g;
+            same = same_set fresh (m ∷ []) (n ∷ []) q r (ap (λ (z : Name). z ∷ []) same) alike;
+          })))));
+        };
         within = IsSubsequence.kept (IsSubsequence.kept (within_then (right_side r) semicolon ts semicolons w.within (part.whole semicolons)));
       };
     }
@@ -101,11 +102,13 @@ two_case d fresh n m ts c p h =
       value = right.Result c;
       is = refl;
       written = record {
-        spelled = record { each = each_name n (λ o same. each_sign s.Comma (each_name m (λ q alike. each_sign s.Assign (each_then (call c) semicolon w.spelled (λ f b g eq. each_sign s.Semicolon (each_nil (record {
-          tree = st.Set1 fresh (o ∷ q ∷ []) (right.Result b);
-          spelled = IsAssignment.two g;
-          same = same_set fresh (o ∷ q ∷ []) (n ∷ m ∷ []) (right.Result b) (right.Result c) (ap (λ (z : Name). z ∷ unplaced_name q ∷ []) same ∙ ap (λ (z : Name). unplaced_name n ∷ z ∷ []) alike) (ap (λ (z : CallText). right.Result z) eq);
-        }))))))) };
+        spelled = record {
+          each = each_name n (λ o same. each_sign s.Comma (each_name m (λ q alike. each_sign s.Assign (each_then (call c) semicolon w.spelled (λ f b g eq. each_sign s.Semicolon (each_nil (record {
+            tree = st.Set1 fresh (o ∷ q ∷ []) (right.Result b);
+            spelled = IsAssignment.two g;
+            same = same_set fresh (o ∷ q ∷ []) (n ∷ m ∷ []) (right.Result b) (right.Result c) (ap (λ (z : Name). z ∷ unplaced_name q ∷ []) same ∙ ap (λ (z : Name). unplaced_name n ∷ z ∷ []) alike) (ap (λ (z : CallText). right.Result z) eq);
+          })))))));
+        };
         within = IsSubsequence.kept (IsSubsequence.kept (IsSubsequence.kept (IsSubsequence.kept (within_then (call c) semicolon ts semicolons w.within (part.whole semicolons)))));
       };
     }
@@ -160,44 +163,50 @@ if_only_case : (d : ℕ) (ts us : Toks) (x : Expr) (xs : List Stmt) (more : Toks
 if_only_case d ts us x xs more p b =
     let w = expr_written d ts x p in
     laid_out d (Tok.key k.If ∷ (ts ++ (us ++ more))) (st.If x xs []) (λ m. key k.If ∷ Piece.blank ∷ (expr x ++ (Piece.blank ∷ block (map stmt xs) m)))
-      (λ m. stmt_if x xs [] m ∙ ap (λ (ps : Layout). key k.If ∷ Piece.blank ∷ (expr x ++ (Piece.blank ∷ ps))) (append-nil (block (map stmt xs) m)))
-      (λ m. record {
-        spelled = record { each = each_key k.If (each_then (expr x) (Piece.blank ∷ block (map stmt xs) m) w.spelled (λ f y q same. each_last (b.at m).spelled (λ g ys r alike. record {
+    (λ m. stmt_if x xs [] m ∙ ap (λ (ps : Layout). key k.If ∷ Piece.blank ∷ (expr x ++ (Piece.blank ∷ ps))) (append-nil (block (map stmt xs) m)))
+    (λ m. record {
+      spelled = record {
+        each = each_key k.If (each_then (expr x) (Piece.blank ∷ block (map stmt xs) m) w.spelled (λ f y q same. each_last (b.at m).spelled (λ g ys r alike. record {
           tree = st.If y ys [];
           spelled = IsStmt.if_only q r;
           same = same_if y x ys [] xs [] same alike refl;
-        }))) };
-        within = IsSubsequence.kept (within_then (expr x) (Piece.blank ∷ block (map stmt xs) m) ts (us ++ more) w.within
+        })));
+      };
+      within = IsSubsequence.kept (within_then (expr x) (Piece.blank ∷ block (map stmt xs) m) ts (us ++ more) w.within
           (subst (IsSubsequence (tokens_of (block (map stmt xs) m))) (sym (map-append unplaced_tok us more)) (part.before (map unplaced_tok more) (b.at m).within)));
-      })
+    })
 
 if_else_case : (d : ℕ) (ts us vs : Toks) (x : Expr) (xs ys : List Stmt) → IsExpr d ts x → BlockWritten d us xs → BlockWritten d vs ys → StmtWritten d (Tok.key k.If ∷ (ts ++ (us ++ Tok.key k.Else ∷ vs))) (st.If x xs ys)
 if_else_case d ts us vs x xs [] p b c = if_only_case d ts us x xs (Tok.key k.Else ∷ vs) p b
 if_else_case d ts us vs x xs (z ∷ zs) p b c =
     let w = expr_written d ts x p in
     laid_out d (Tok.key k.If ∷ (ts ++ (us ++ Tok.key k.Else ∷ vs))) (st.If x xs (z ∷ zs))
-      (λ m. key k.If ∷ Piece.blank ∷ (expr x ++ (Piece.blank ∷ (block (map stmt xs) m ++ (Piece.blank ∷ key k.Else ∷ Piece.blank ∷ block (map stmt (z ∷ zs)) m)))))
-      (stmt_if x xs (z ∷ zs))
-      (λ m. record {
-        spelled = record { each = each_key k.If (each_then (expr x) (Piece.blank ∷ (block (map stmt xs) m ++ (Piece.blank ∷ key k.Else ∷ Piece.blank ∷ block (map stmt (z ∷ zs)) m))) w.spelled (λ f y q same.
-          each_then (block (map stmt xs) m) (Piece.blank ∷ key k.Else ∷ Piece.blank ∷ block (map stmt (z ∷ zs)) m) (b.at m).spelled (λ g ys r alike. each_key k.Else (each_last (c.at m).spelled (λ h ws t eq. record {
-            tree = st.If y ys ws;
-            spelled = IsStmt.if_else q r t;
-            same = same_if y x ys ws xs (z ∷ zs) same alike eq;
-          }))))) };
-        within = IsSubsequence.kept (within_then (expr x) (Piece.blank ∷ (block (map stmt xs) m ++ (Piece.blank ∷ key k.Else ∷ Piece.blank ∷ block (map stmt (z ∷ zs)) m))) ts (us ++ Tok.key k.Else ∷ vs) w.within
+    (λ m. key k.If ∷ Piece.blank ∷ (expr x ++ (Piece.blank ∷ (block (map stmt xs) m ++ (Piece.blank ∷ key k.Else ∷ Piece.blank ∷ block (map stmt (z ∷ zs)) m)))))
+    (stmt_if x xs (z ∷ zs))
+    (λ m. record {
+      spelled = record {
+        each = each_key k.If (each_then (expr x) (Piece.blank ∷ (block (map stmt xs) m ++ (Piece.blank ∷ key k.Else ∷ Piece.blank ∷ block (map stmt (z ∷ zs)) m))) w.spelled (λ f y q same.
+            each_then (block (map stmt xs) m) (Piece.blank ∷ key k.Else ∷ Piece.blank ∷ block (map stmt (z ∷ zs)) m) (b.at m).spelled (λ g ys r alike. each_key k.Else (each_last (c.at m).spelled (λ h ws t eq. record {
+              tree = st.If y ys ws;
+              spelled = IsStmt.if_else q r t;
+              same = same_if y x ys ws xs (z ∷ zs) same alike eq;
+            })))));
+      };
+      within = IsSubsequence.kept (within_then (expr x) (Piece.blank ∷ (block (map stmt xs) m ++ (Piece.blank ∷ key k.Else ∷ Piece.blank ∷ block (map stmt (z ∷ zs)) m))) ts (us ++ Tok.key k.Else ∷ vs) w.within
           (within_then (block (map stmt xs) m) (Piece.blank ∷ key k.Else ∷ Piece.blank ∷ block (map stmt (z ∷ zs)) m) us (Tok.key k.Else ∷ vs) (b.at m).within (IsSubsequence.kept (c.at m).within)));
-      })
+    })
 
 while_case : (d : ℕ) (ts us : Toks) (x : Expr) (xs : List Stmt) → IsExpr d ts x → BlockWritten d us xs → StmtWritten d (Tok.key k.While ∷ (ts ++ us)) (st.While x xs)
 while_case d ts us x xs p b =
     let w = expr_written d ts x p in
     laid_out d (Tok.key k.While ∷ (ts ++ us)) (st.While x xs) (λ m. key k.While ∷ Piece.blank ∷ (expr x ++ (Piece.blank ∷ block (map stmt xs) m))) (stmt_while x xs) (λ m. record {
-      spelled = record { each = each_key k.While (each_then (expr x) (Piece.blank ∷ block (map stmt xs) m) w.spelled (λ f y q same. each_last (b.at m).spelled (λ g ys r alike. record {
-        tree = st.While y ys;
-        spelled = IsStmt.while_loop q r;
-        same = same_while y x ys xs same alike;
-      }))) };
+      spelled = record {
+        each = each_key k.While (each_then (expr x) (Piece.blank ∷ block (map stmt xs) m) w.spelled (λ f y q same. each_last (b.at m).spelled (λ g ys r alike. record {
+          tree = st.While y ys;
+          spelled = IsStmt.while_loop q r;
+          same = same_while y x ys xs same alike;
+        })));
+      };
       within = IsSubsequence.kept (within_then (expr x) (Piece.blank ∷ block (map stmt xs) m) ts us w.within (b.at m).within);
     })
 
@@ -231,11 +240,13 @@ spawn_case : (d : ℕ) (us ts : Toks) (w : HowText) (n : Name) (xs : List Expr) 
 spawn_case d us ts w n xs p a =
     let h = how_written p in
     laid_out d (us ++ Tok.name n ∷ (ts ++ semicolons)) (st.Spawn w n xs) (λ m. start w ++ started n xs) (stmt_spawn w n xs) (λ m. record {
-      spelled = record { each = each_then (start w) (started n xs) h.spelled (λ f v q same. each_started n xs a.spelled (λ o g ys alike r eq. record {
-        tree = st.Spawn v o ys;
-        spelled = IsStmt.spawn q r;
-        same = same_spawn v w o n ys xs same alike eq;
-      })) };
+      spelled = record {
+        each = each_then (start w) (started n xs) h.spelled (λ f v q same. each_started n xs a.spelled (λ o g ys alike r eq. record {
+          tree = st.Spawn v o ys;
+          spelled = IsStmt.spawn q r;
+          same = same_spawn v w o n ys xs same alike eq;
+        }));
+      };
       within = within_then (start w) (started n xs) us (Tok.name n ∷ (ts ++ semicolons)) h.within (within_started n xs ts a.within);
     })
 
@@ -254,46 +265,56 @@ forall_case d a b c ts lo hi grain n xs p q r w =
     let last = expr grain ++ started n xs in
     let middle = expr hi ++ (Piece.blank ∷ key k.Grain ∷ Piece.blank ∷ last) in
     laid_out d (Tok.key k.Forall ∷ (a ++ Tok.sign s.DotDot ∷ (b ++ Tok.key k.Grain ∷ (c ++ Tok.name n ∷ (ts ++ semicolons))))) (st.Forall lo hi grain n xs)
-      (λ m. key k.Forall ∷ Piece.blank ∷ (expr lo ++ (Piece.blank ∷ sign s.DotDot ∷ Piece.blank ∷ middle)))
-      (λ m. stmt_forall lo hi grain n xs m ∙ range_then lo hi grain (started n xs))
-      (λ m. record {
-        spelled = record { each = each_key k.Forall (each_then (expr lo) (Piece.blank ∷ sign s.DotDot ∷ Piece.blank ∷ middle) one.spelled (λ f x g same. each_sign s.DotDot
-          (each_then (expr hi) (Piece.blank ∷ key k.Grain ∷ Piece.blank ∷ last) two.spelled (λ h y i alike. each_key k.Grain
-          (each_then (expr grain) (started n xs) three.spelled (λ j z l eq. each_started n xs w.spelled (λ o t ys like u equal. record {
-            tree = st.Forall x y z o ys;
-            spelled = IsStmt.forall_loop g i l u;
-            same = same_forall x y z lo hi grain o n ys xs same alike eq like equal;
-          }))))))) };
-        within = IsSubsequence.kept (within_then (expr lo) (Piece.blank ∷ sign s.DotDot ∷ Piece.blank ∷ middle) a (Tok.sign s.DotDot ∷ (b ++ Tok.key k.Grain ∷ (c ++ Tok.name n ∷ (ts ++ semicolons)))) one.within
+    (λ m. key k.Forall ∷ Piece.blank ∷ (expr lo ++ (Piece.blank ∷ sign s.DotDot ∷ Piece.blank ∷ middle)))
+    (λ m. stmt_forall lo hi grain n xs m ∙ range_then lo hi grain (started n xs))
+    (λ m. record {
+      spelled = record {
+        each = each_key k.Forall (each_then (expr lo) (Piece.blank ∷ sign s.DotDot ∷ Piece.blank ∷ middle) one.spelled (λ f x g same. each_sign s.DotDot
+            (each_then (expr hi) (Piece.blank ∷ key k.Grain ∷ Piece.blank ∷ last) two.spelled (λ h y i alike. each_key k.Grain
+            (each_then (expr grain) (started n xs) three.spelled (λ j z l eq. each_started n xs w.spelled (λ o t ys like u equal. record {
+              tree = st.Forall x y z o ys;
+              spelled = IsStmt.forall_loop g i l u;
+              same = same_forall x y z lo hi grain o n ys xs same alike eq like equal;
+            })))))));
+      };
+      within = IsSubsequence.kept (within_then (expr lo) (Piece.blank ∷ sign s.DotDot ∷ Piece.blank ∷ middle) a (Tok.sign s.DotDot ∷ (b ++ Tok.key k.Grain ∷ (c ++ Tok.name n ∷ (ts ++ semicolons)))) one.within
           (IsSubsequence.kept (within_then (expr hi) (Piece.blank ∷ key k.Grain ∷ Piece.blank ∷ last) b (Tok.key k.Grain ∷ (c ++ Tok.name n ∷ (ts ++ semicolons))) two.within
           (IsSubsequence.kept (within_then (expr grain) (started n xs) c (Tok.name n ∷ (ts ++ semicolons)) three.within (within_started n xs ts w.within))))));
-      })
+    })
 
 -- ---- blocks
 
 braces_case : (d : ℕ) (ts : Toks) (xs : List Stmt) → StmtsWritten d ts xs → BlockWritten (suc d) (Tok.sign s.LeftBrace ∷ (ts ++ Tok.sign s.RightBrace ∷ [])) xs
-braces_case d ts xs w = record { at = λ m.
-  let end = replicate m Piece.blank ++ sign s.RightBrace ∷ [] in
-  let last = tokens_of-margin m (sign s.RightBrace ∷ []) in
-  record {
-    spelled = record { each = each_sign s.LeftBrace (each_then (lines (map stmt xs) (m + 2)) end (w.at (m + 2)).spelled (λ f ys p same.
-      subst (Each (λ r. _)) (sym last) (each_sign s.RightBrace (each_nil (record { tree = ys; spelled = IsBlock.braces p; same = same }))))) };
-    within = IsSubsequence.kept (within_then (lines (map stmt xs) (m + 2)) end ts (Tok.sign s.RightBrace ∷ []) (w.at (m + 2)).within
-      (subst (λ (u : Toks). IsSubsequence u (Tok.sign s.RightBrace ∷ [])) (sym last) (part.whole (Tok.sign s.RightBrace ∷ []))));
-  } }
+braces_case d ts xs w = record {
+  at = λ m.
+      let end = replicate m Piece.blank ++ sign s.RightBrace ∷ [] in
+      let last = tokens_of-margin m (sign s.RightBrace ∷ []) in
+      record {
+        spelled = record {
+          each = each_sign s.LeftBrace (each_then (lines (map stmt xs) (m + 2)) end (w.at (m + 2)).spelled (λ f ys p same.
+              subst (Each (λ r. _)) (sym last) (each_sign s.RightBrace (each_nil (record { tree = ys; spelled = IsBlock.braces p; same = same })))));
+        };
+        within = IsSubsequence.kept (within_then (lines (map stmt xs) (m + 2)) end ts (Tok.sign s.RightBrace ∷ []) (w.at (m + 2)).within
+            (subst (λ (u : Toks). IsSubsequence u (Tok.sign s.RightBrace ∷ [])) (sym last) (part.whole (Tok.sign s.RightBrace ∷ []))));
+      };
+}
 
 more_case : (d : ℕ) (ts us : Toks) (x : Stmt) (xs : List Stmt) → StmtWritten d ts x → StmtsWritten d us xs → StmtsWritten d (ts ++ us) (x ∷ xs)
-more_case d ts us x xs a b = record { at = λ m.
-  let seen = tokens_of-line m (stmt x m) (lines (map stmt xs) m) in
-  record {
-    spelled = subst (λ (u : Toks). Freely (map unplaced_stmt) (IsStmts d) u (x ∷ xs)) (sym seen) (record { each = each_part (a.at m).spelled (λ f y p same. each_last (b.at m).spelled (λ g ys q alike. record {
-      tree = y ∷ ys;
-      spelled = IsStmts.one_more p q;
-      same = ap (λ (z : Stmt). z ∷ map unplaced_stmt ys) same ∙ ap (λ (zs : List Stmt). unplaced_stmt x ∷ zs) alike;
-    })) });
-    within = subst (λ (u : Toks). IsSubsequence u (map unplaced_tok (ts ++ us))) (sym seen)
-      (subst (IsSubsequence (tokens_of (stmt x m) ++ tokens_of (lines (map stmt xs) m))) (sym (map-append unplaced_tok ts us)) (part.joined (a.at m).within (b.at m).within));
-  } }
+more_case d ts us x xs a b = record {
+  at = λ m.
+      let seen = tokens_of-line m (stmt x m) (lines (map stmt xs) m) in
+      record {
+        spelled = subst (λ (u : Toks). Freely (map unplaced_stmt) (IsStmts d) u (x ∷ xs)) (sym seen) (record {
+          each = each_part (a.at m).spelled (λ f y p same. each_last (b.at m).spelled (λ g ys q alike. record {
+            tree = y ∷ ys;
+            spelled = IsStmts.one_more p q;
+            same = ap (λ (z : Stmt). z ∷ map unplaced_stmt ys) same ∙ ap (λ (zs : List Stmt). unplaced_stmt x ∷ zs) alike;
+          }));
+        });
+        within = subst (λ (u : Toks). IsSubsequence u (map unplaced_tok (ts ++ us))) (sym seen)
+            (subst (IsSubsequence (tokens_of (stmt x m) ++ tokens_of (lines (map stmt xs) m))) (sym (map-append unplaced_tok ts us)) (part.joined (a.at m).within (b.at m).within));
+      };
+}
 
 none_case : (d : ℕ) → StmtsWritten d [] []
 none_case d = record { at = λ m. record { spelled = record { each = each_nil (record { tree = []; spelled = IsStmts.none; same = refl }) }; within = IsSubsequence.none } }

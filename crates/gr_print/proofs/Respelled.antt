@@ -1,5 +1,5 @@
 -- What holds of all tokens that are some given ones but for places, token by token; and what such tokens spell.
-use Rattle.std.proofs.Common.{◌≡◌, ℕ, Bool, true, false, cond, List, [], ◌∷◌, ◌++◌, map, refl, sym, ap, subst, ◌∙◌}
+use Rattle.std.proofs.Common.{◌≡◌, ℕ, Bool, true, false, List, [], ◌∷◌, ◌++◌, map, refl, sym, ap, subst}
 use Rattle.std.specs.Prelude.{codes, if◌then◌else◌}
 use Rattle.std.specs.Str.{bytes_eq}
 use Rattle.std.proofs.lemmas.Slice.Eq.{bytes_eq-Decides}
@@ -133,10 +133,12 @@ pub record Freely {A : Type 0} (bare : A → A) (L : Toks → A → Type 0) (ws 
 
 pub each_part : {A : Type 0} {bare : A → A} {L : Toks → A → Type 0} {K : Toks → Type 0} {ws vs : Toks} {x : A} → Freely bare L ws x
     → ((f : Toks) (y : A) → L f y → bare y ≡ bare x → Each (λ r. K (f ++ r)) vs) → Each K (ws ++ vs)
-each_part {K} {ws} {vs} h go = record { at = λ ts e.
-    let s = split ts ws vs e in
-    let r = h.each.at s.front s.first in
-    subst K s.parts ((go s.front r.tree r.spelled r.same).at s.rest s.second) }
+each_part {K} {ws} {vs} h go = record {
+  at = λ ts e.
+      let s = split ts ws vs e in
+      let r = h.each.at s.front s.first in
+      subst K s.parts ((go s.front r.tree r.spelled r.same).at s.rest s.second);
+}
 
 pub each_last : {A : Type 0} {bare : A → A} {L : Toks → A → Type 0} {K : Toks → Type 0} {ws : Toks} {x : A} → Freely bare L ws x → ((f : Toks) (y : A) → L f y → bare y ≡ bare x → K f) → Each K ws
 each_last h go = record { at = λ ts e. let r = h.each.at ts e in go ts r.tree r.spelled r.same }

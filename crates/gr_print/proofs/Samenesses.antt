@@ -1,5 +1,5 @@
 -- Trees whose parts are the same but for places are so themselves.
-use Rattle.std.proofs.Common.{◌≡◌, Bool, List, map, refl, sym, ap, ◌∙◌}
+use Rattle.std.proofs.Common.{◌≡◌, Bool, List, map, sym, ap, ◌∙◌}
 use Rattle.gr_lang.specs.declared.syntax.Name.{Name}
 use Rattle.gr_lang.specs.declared.syntax.Number.{Number}
 use Rattle.gr_lang.specs.declared.syntax.BinOp.{BinOp}

@@ -1,22 +1,21 @@
 -- The tokens of a text that is read as a program spell the program.
-use Rattle.std.proofs.Common.{◌≡◌, ◌≢◌, ℕ, ◌+◌, ◌-◌, ◌≤◌, List, [], ◌∷◌, ◌++◌, map, length, take, drop, All, Ok, refl, sym, ap, subst, ◌∙◌, arith}
+use Rattle.std.proofs.Common.{◌≡◌, ◌≢◌, ℕ, ◌-◌, ◌≤◌, List, [], ◌∷◌, length, drop, All, Ok, refl, sym, ap, subst, ◌∙◌, arith}
 use Rattle.std.specs.Prelude.{slice_range}
 use Rattle.std.proofs.lemmas.List.{length-append, length-take, length-drop}
 use Rattle.std.proofs.lemmas.List.Elements.{All-head, All-tail}
 use Rattle.gr_lang.specs.declared.syntax.Place.{Place}
-use Rattle.gr_lang.specs.declared.syntax.Item.{Item}
 use Rattle.gr_lang.specs.declared.syntax.Program.{Program}
 use Rattle.gr_text.specs.declared.token.Keyword.{Keyword}
 use Rattle.gr_text.specs.declared.token.Keyword.TheVariants as k
 use Rattle.gr_text.specs.declared.token.Token.{Token}
 use Rattle.gr_text.specs.declared.token.TokenKind.{TokenKind}
 use Rattle.gr_text.specs.declared.token.TokenKind.TheVariants as kinds
-use Rattle.gr_text.specs.Text.{Text, IsToken, Fits, Reads, IsTokenOf, AreTokens, most_name, token_at}
+use Rattle.gr_text.specs.Text.{Text, IsToken, Fits, Reads, IsTokenOf, token_at}
 use Rattle.gr_text.proofs.Well.{well}
-use Rattle.gr_parse.specs.Tok.{Tok, tok_of, tok_of_kind, toks}
+use Rattle.gr_parse.specs.Tok.{tok_of, tok_of_kind, toks}
 use Rattle.gr_parse.specs.Grammar.{IsProgramOf}
 use Rattle.gr_parse.proofs.Whole.{Cut, cut, toks_more, toks_none}
-use Rattle.gr_print.specs.Unplaced.{unplaced_item, SameButForPlaces}
+use Rattle.gr_print.specs.Unplaced.{SameButForPlaces}
 use Rattle.gr_print.specs.Printed.{IsWritten, AreWritten, IsSpelling, IsSpelled}
 
 word_written : (word : Keyword) (bytes : Text) (at : Place) → IsWritten (tok_of_kind bytes at (kinds.Keyword word))

@@ -1,5 +1,5 @@
 -- The bytes of layouts.
-use Rattle.std.proofs.Common.{◌≡◌, ℕ, zero, suc, ◌≤◌, ◌<◌, Bool, true, false, nat_le, ◌+◌, List, [], ◌∷◌, ◌++◌, map, replicate, refl, sym, ap, ◌∙◌, append_assoc, arith}
+use Rattle.std.proofs.Common.{◌≡◌, ℕ, zero, suc, Bool, true, false, nat_le, ◌+◌, List, [], ◌∷◌, ◌++◌, map, replicate, refl, sym, ap, ◌∙◌, append_assoc, arith}
 use Rattle.std.proofs.lemmas.List.{append-nil}
 use Rattle.std.specs.Fmt.{decimal}
 use Rattle.std.specs.Prelude.{codes, if◌then◌else◌}
@@ -19,7 +19,7 @@ use Rattle.gr_text.specs.declared.token.Sign.TheVariants as s
 use Rattle.gr_text.specs.Spelling.{sign_bytes}
 use Rattle.gr_parse.specs.Tok.{Tok, sign_of, level_of}
 use Rattle.gr_print.specs.Unplaced.{nowhere, unplaced_name}
-use Rattle.gr_print.specs.Pieces.{Piece, Layout, token_bytes, piece_bytes, bytes_of, name, sign, object}
+use Rattle.gr_print.specs.Pieces.{Piece, Layout, token_bytes, piece_bytes, bytes_of, sign, object}
 use Rattle.gr_print.specs.Layout.{Shown, names, numbers, shown, below, bracket, joined, left_level, expr, exprs, args, reducer, call, right_side, let_word, assignment, start, started, range, stmt, line, lines, block, else_part, input, task}
 use Rattle.gr_print.proofs.Layouts.{below_lit, below_local, below_not, below_two, below_two_grouped, stmt_set, stmt_do, stmt_print, stmt_if, stmt_while, stmt_finish, stmt_spawn, stmt_forall}
 
@@ -57,14 +57,14 @@ text_grouped l o y z x false h k =
 -- Two operands, with brackets around them or without.
 pub text_two : (l : ℕ) (o : BinOp) (y z x : Expr) → x ≡ e.Two o y z
     → bytes_of (below l (shown x)) ≡ bytes_of (bracket (nat_le l (level_of o)) s.LeftParen) ++ (bytes_of (below (left_level (level_of o)) (shown y))
-      ++ (32 ∷ (sign_bytes (sign_of o) ++ (32 ∷ (bytes_of (below (level_of o) (shown z)) ++ bytes_of (bracket (nat_le l (level_of o)) s.RightParen))))))
+    ++ (32 ∷ (sign_bytes (sign_of o) ++ (32 ∷ (bytes_of (below (level_of o) (shown z)) ++ bytes_of (bracket (nat_le l (level_of o)) s.RightParen))))))
 text_two l o y z x h =
     let end = bytes_of (bracket (nat_le l (level_of o)) s.RightParen) in
     text_grouped l o y z x (nat_le l (level_of o)) h refl
     ∙ ap (λ (bytes : List ℕ). bytes_of (bracket (nat_le l (level_of o)) s.LeftParen) ++ (bytes ++ end)) (text_joined o (shown y) (shown z))
     ∙ ap (λ (bytes : List ℕ). bytes_of (bracket (nat_le l (level_of o)) s.LeftParen) ++ bytes)
-        (append_assoc (bytes_of (below (left_level (level_of o)) (shown y))) (32 ∷ (sign_bytes (sign_of o) ++ (32 ∷ bytes_of (below (level_of o) (shown z))))) end
-        ∙ ap (λ (bytes : List ℕ). bytes_of (below (left_level (level_of o)) (shown y)) ++ (32 ∷ bytes)) (append_assoc (sign_bytes (sign_of o)) (32 ∷ bytes_of (below (level_of o) (shown z))) end))
+    (append_assoc (bytes_of (below (left_level (level_of o)) (shown y))) (32 ∷ (sign_bytes (sign_of o) ++ (32 ∷ bytes_of (below (level_of o) (shown z))))) end
+    ∙ ap (λ (bytes : List ℕ). bytes_of (below (left_level (level_of o)) (shown y)) ++ (32 ∷ bytes)) (append_assoc (sign_bytes (sign_of o)) (32 ∷ bytes_of (below (level_of o) (shown z))) end))
 
 -- ---- lists, arguments and calls
 

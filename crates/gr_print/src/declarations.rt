@@ -40,7 +40,12 @@ pub(crate) fn write_item(out: &mut String, margin: &Margin, item: &Item) -> Resu
     ensures { OnOk result (string_bytes out.new ≡ string_bytes out.old ++ bytes_of (spec.item item.now)) }
 {
     match item {
-        Item::Array { name, words } => write!(out, "array {}[{}];", name.text.as_str(), words.value)?,
+        Item::Array { name, words } => write!(
+            out,
+            "array {}[{}];",
+            name.text.as_str(),
+            words.value
+        )?,
         Item::Set { name } => write!(out, "set {};", name.text.as_str())?,
         Item::Map { name } => write!(out, "map {};", name.text.as_str())?,
         Item::Vector { name } => write!(out, "vector {};", name.text.as_str())?,

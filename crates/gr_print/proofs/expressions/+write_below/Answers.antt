@@ -1,4 +1,4 @@
-use Rattle.std.proofs.Common.{rules, arith, ◌≡◌, ◌++◌, [], ◌∷◌}
+use Rattle.std.proofs.Common.{rules, arith}
 use Rattle.std.proofs.lemmas.Grind.{common_steps}
 use Rattle.gr_print.proofs.Texts.{text_not, text_two}
 use Rattle.gr_print.proofs.expressions.+write_below.Goals as goal

@@ -1,4 +1,4 @@
-use Rattle.std.proofs.Common.{rules, arith, ◌≡◌, ◌++◌, ◌+◌, [], ◌∷◌, map, drop}
+use Rattle.std.proofs.Common.{rules, arith, ◌+◌, map, drop}
 use Rattle.std.proofs.lemmas.Grind.{common_steps}
 use Rattle.gr_print.specs.Layout.{expr, behind}
 use Rattle.gr_print.proofs.Texts.{bytes_of-append}
