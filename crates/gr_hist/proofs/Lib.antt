@@ -11,3 +11,4 @@ pub mod Calling
 pub mod Acting
 pub mod LineBytes
 pub mod Readings
+pub mod Trails
