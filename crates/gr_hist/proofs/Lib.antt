@@ -12,3 +12,6 @@ pub mod Acting
 pub mod LineBytes
 pub mod Readings
 pub mod Trails
+pub mod Counts
+pub mod WrittenReads
+pub mod Examples

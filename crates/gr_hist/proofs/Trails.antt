@@ -1,5 +1,5 @@
 -- A line is its first field, the others with a space before each, and a line feed.
-use Rattle.std.proofs.Common.{◌≡◌, ◌∙◌, ap, refl, sym, ℕ, List, [], ◌∷◌, ◌++◌}
+use Rattle.std.proofs.Common.{◌≡◌, ◌∙◌, ap, refl, sym, ℕ, List, [], ◌∷◌, ◌++◌, codes}
 use Rattle.std.proofs.lemmas.List.{append_assoc, append-nil}
 use Rattle.std.specs.List.{join_with_byte}
 use Rattle.gr_hist.specs.Names.{Bytes}
@@ -64,3 +64,13 @@ loop_written old id target hs ns a h t n ea eh et en =
     (flat_five old id (trail hs) (32 ∷ target) (trail ns) (10 ∷ [])
     ∙ ap (λ (x : Bytes). old ++ (id ++ (x ++ 10 ∷ []))) (sym (trail_append hs (target ∷ ns)))
     ∙ from_trail old id (hs ++ target ∷ ns))
+
+-- The first line, from what each step adds.
+pub header_written : (old cores steps : Bytes) (a b c d : Bytes)
+    → a ≡ old ++ codes "history 1 cores " → b ≡ a ++ cores → c ≡ b ++ codes " steps " → d ≡ c ++ steps
+    → d ++ 10 ∷ [] ≡ old ++ line_of (codes "history" ∷ codes "1" ∷ codes "cores" ∷ cores ∷ codes "steps" ∷ steps ∷ [])
+header_written old cores steps a b c d ea eb ec ed =
+    rw (ed, ec, eb, ea) (flat_line old (codes "history 1 cores ") cores (codes " steps ") steps (10 ∷ []))
+  where
+    flat_line : (o a b c d e : Bytes) → ((((o ++ a) ++ b) ++ c) ++ d) ++ e ≡ o ++ ((a ++ (b ++ (c ++ d))) ++ e)
+    flat_line o a b c d e = simp append_assoc

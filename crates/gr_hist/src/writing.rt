@@ -1,117 +1,137 @@
 //! The writer of history texts.
-ghost use Rattle.std.specs.Prelude.{◌≡◌, ◌++◌, ◌∷◌, [], OnOk};
-ghost use Rattle.gr_hist.specs.declared.text.NamedEntry.TheVariants as entry;
-ghost use Rattle.gr_hist.specs.Grammar.{HasNumbers, IsId};
-ghost use Rattle.gr_hist.specs.Spelling.{id_bytes, line_of, parts_of};
+ghost use Rattle.std.specs.Prelude.{◌≡◌, ◌++◌, ◌≤◌, ◌^◌, IfOk, OnOk, Ok, map};
+ghost use Rattle.gr_hist.specs.Grammar.{HasNumbers, ReadsText};
+ghost use Rattle.gr_hist.specs.Naming.{IsNamable, history_text, lines_of, named, named_by, named_call};
+ghost use Rattle.gr_hist.specs.Spelling.{header_parts, line_of, parts_of};
+ghost use Rattle.gr_hist.specs.Written.{HaveNumbers, named_shape};
 
-use crate::putting::{put_child, put_how, put_id, put_number, put_numbers, put_range, put_reducer, put_reply, put_text, put_word};
-use crate::words::{operation_word, trap_word};
-use gr_lang::action::{How, TaskId, TrapKind};
-use gr_lang::operation::Operation;
-use std::alloc::AllocError;
+use crate::entry_lines::{put_begin, put_call, put_loop, put_mark, put_print, put_start, put_trap};
+use crate::putting::{put_number, put_text};
+use crate::shapes::{Shape, shape_of};
+use crate::tables::Tables;
+use gr_lang::accepted::Accepted;
+use gr_lang::action::{Entry, Op, Reply, TaskId};
+use gr_lang::lists::History;
+use std::alloc::{AllocError, Global};
 
-/// Adds the line of a task and a word.
-fn put_mark(out: &mut Vec<u8>, task: TaskId, word: &str) -> Result<(), AllocError>
-    ensures text { OnOk result (out.new.items ≡ out.old.items ++ line_of (id_bytes task ∷ word.now ∷ [])) }
-    ensures fits { IsId task }
-{
-    put_id(out, task)?;
-    put_word(out, word)?;
-    put_text(out, "\n")
-}
-
-/// Adds the line of a print.
-fn put_print(out: &mut Vec<u8>, task: TaskId, word: u64) -> Result<(), AllocError>
-    ensures text { OnOk result (out.new.items ≡ out.old.items ++ line_of (parts_of (entry.Print task word))) }
-    ensures fits { HasNumbers (entry.Print task word) }
-{
-    put_id(out, task)?;
-    put_text(out, " print ")?;
-    put_number(out, word)?;
-    put_text(out, "\n")
-}
-
-/// Adds the line of a call.
-fn put_call(
+/// Adds the line of a call that is taken apart, or of a print.
+#[tactic(auto, using(crate::proofs::Counts::counts))]
+fn put_shape(
     out: &mut Vec<u8>,
+    tables: &Tables,
     task: TaskId,
-    object: &str,
-    op: Operation,
-    reducer: Option<u64>,
-    numbers: &[u64],
-    reply: &[u64],
+    shape: Shape,
+    reply: Reply,
 ) -> Result<(), AllocError>
-    ensures text { OnOk result (out.new.items ≡ out.old.items ++ line_of (parts_of (entry.Call task object.now op reducer numbers.now reply.now))) }
-    ensures fits { OnOk result (HasNumbers (entry.Call task object.now op reducer numbers.now reply.now)) }
+    ensures text { OnOk result (out.new.items ≡ out.old.items ++ line_of (parts_of (named_shape tables.now task shape reply))) }
+    ensures fits { OnOk result (HasNumbers (named_shape tables.now task shape reply)) }
 {
-    put_id(out, task)?;
-    put_word(out, object)?;
-    put_word(out, operation_word(op))?;
-    put_reducer(out, reducer)?;
-    put_numbers(out, numbers)?;
-    put_reply(out, reply)?;
-    put_text(out, "\n")
+    match shape {
+        Shape::Call {
+            object,
+            op,
+            reducer,
+            numbers,
+        } => {
+            let words = [reply.first, reply.second];
+            let name = tables.object(object);
+            let numbers = &numbers[..op.argument_count()];
+            let words = &words[..op.result_count()];
+            put_call(out, task, name, op, reducer, numbers, words)
+        }
+        Shape::Print { word } => put_print(out, task, word),
+    }
 }
 
-/// Adds the line of a task that starts.
-fn put_start(
+/// Adds the line of a call or print.
+fn put_op(
     out: &mut Vec<u8>,
+    tables: &Tables,
     task: TaskId,
-    how: How,
-    target: &str,
-    args: &[u64],
-    child: TaskId,
+    op: Op,
+    reply: Reply,
 ) -> Result<(), AllocError>
-    ensures text { OnOk result (out.new.items ≡ out.old.items ++ line_of (parts_of (entry.Spawn task how target.now args.now child))) }
-    ensures fits { OnOk result (HasNumbers (entry.Spawn task how target.now args.now child)) }
+    ensures text { OnOk result (out.new.items ≡ out.old.items ++ line_of (parts_of (named_call tables.now task op reply))) }
+    ensures fits { OnOk result (HasNumbers (named_call tables.now task op reply)) }
 {
-    put_id(out, task)?;
-    put_how(out, how)?;
-    put_word(out, target)?;
-    put_numbers(out, args)?;
-    put_child(out, child)?;
+    let shape = shape_of(op);
+    put_shape(out, tables, task, shape, reply)
+}
+
+/// Adds the line of an entry.
+fn put_entry(out: &mut Vec<u8>, tables: &Tables, entry: &Entry) -> Result<(), AllocError>
+    ensures text { OnOk result (out.new.items ≡ out.old.items ++ line_of (parts_of (named_by tables.now entry.now))) }
+    ensures fits { OnOk result (HasNumbers (named_by tables.now entry.now)) }
+{
+    match entry {
+        Entry::Call { task, op, reply } => put_op(out, tables, *task, *op, *reply),
+        Entry::Spawn {
+            task,
+            how,
+            target,
+            args,
+            child,
+        } => put_start(out, *task, *how, tables.task(*target), args.as_slice(), *child),
+        Entry::Finish { task } => put_mark(out, *task, "finish"),
+        Entry::Loop {
+            task,
+            lo,
+            hi,
+            grain,
+            target,
+            args,
+        } => put_loop(out, *task, *lo, *hi, *grain, tables.task(*target), args.as_slice()),
+        Entry::Begin {
+            owner,
+            index,
+            child,
+        } => put_begin(out, *owner, *index, *child),
+        Entry::Pass { task } => put_mark(out, *task, "pass"),
+        Entry::End { task } => put_mark(out, *task, "end"),
+        Entry::Trap { task, kind } => put_trap(out, *task, *kind),
+        Entry::Over => put_text(out, "over\n"),
+    }
+}
+
+/// Adds the lines of entries.
+fn put_entries(out: &mut Vec<u8>, tables: &Tables, entries: &[Entry]) -> Result<(), AllocError>
+    ensures text { OnOk result (out.new.items ≡ out.old.items ++ lines_of (map (named_by tables.now) entries.now)) }
+    ensures fits { OnOk result (HaveNumbers tables.now entries.now) }
+{
+    for entry in entries {
+        put_entry(out, tables, entry)?;
+    }
+    Ok(())
+}
+
+/// Adds the first line.
+fn put_header(out: &mut Vec<u8>, cores: u64, steps: u64) -> Result<(), AllocError>
+    ensures { OnOk result (out.new.items ≡ out.old.items ++ line_of (header_parts cores steps)) }
+{
+    put_text(out, "history 1 cores ")?;
+    put_number(out, cores)?;
+    put_text(out, " steps ")?;
+    put_number(out, steps)?;
     put_text(out, "\n")
 }
 
-/// Adds the line of a loop.
-fn put_loop(
-    out: &mut Vec<u8>,
-    task: TaskId,
-    lo: u64,
-    hi: u64,
-    grain: u64,
-    target: &str,
-    args: &[u64],
-) -> Result<(), AllocError>
-    ensures text { OnOk result (out.new.items ≡ out.old.items ++ line_of (parts_of (entry.Loop task lo hi grain target.now args.now))) }
-    ensures fits { OnOk result (HasNumbers (entry.Loop task lo hi grain target.now args.now)) }
+/// The text of a history of the program, with the number of cores, 1 to 16, and the limit of steps, 1 to
+/// 2^40. Where each object and task of the history has a name that is one of the language, it reads as
+/// that history with its names.
+pub fn write(
+    alloc: Global,
+    program: &Accepted,
+    cores: u64,
+    steps: u64,
+    history: &History,
+) -> Result<Vec<u8>, AllocError>
+    ensures text { IfOk result (λ t. t.items ≡ history_text program.now cores steps history.now) }
+    ensures reads { IfOk result (λ t. IsNamable program.now history.now → 1 ≤ cores → cores ≤ 16 → 1 ≤ steps → steps ≤ 2 ^ 40
+        → ReadsText t.items (Ok (record { cores = cores; steps = steps; lines = map (named program.now) history.now }))) }
 {
-    put_id(out, task)?;
-    put_range(out, lo, hi, grain)?;
-    put_word(out, target)?;
-    put_numbers(out, args)?;
-    put_text(out, "\n")
-}
-
-/// Adds the line of an index that begins.
-fn put_begin(out: &mut Vec<u8>, owner: TaskId, index: u64, child: TaskId) -> Result<(), AllocError>
-    ensures text { OnOk result (out.new.items ≡ out.old.items ++ line_of (parts_of (entry.Begin owner index child))) }
-    ensures fits { HasNumbers (entry.Begin owner index child) }
-{
-    put_id(out, owner)?;
-    put_text(out, " begin ")?;
-    put_number(out, index)?;
-    put_child(out, child)?;
-    put_text(out, "\n")
-}
-
-/// Adds the line of a trap.
-fn put_trap(out: &mut Vec<u8>, task: TaskId, kind: TrapKind) -> Result<(), AllocError>
-    ensures text { OnOk result (out.new.items ≡ out.old.items ++ line_of (parts_of (entry.Trap task kind))) }
-    ensures fits { IsId task }
-{
-    put_id(out, task)?;
-    put_text(out, " trap ")?;
-    put_text(out, trap_word(kind))?;
-    put_text(out, "\n")
+    let tables = Tables::new(alloc, program.program())?;
+    let mut out = Vec::new(alloc);
+    put_header(&mut out, cores, steps)?;
+    put_entries(&mut out, &tables, history.as_slice())?;
+    Ok(out)
 }

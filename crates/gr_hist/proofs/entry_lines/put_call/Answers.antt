@@ -1,7 +1,7 @@
 use Rattle.std.proofs.Common.{rules, ◌≡◌, subst, List, ℕ, OnOk, decimal, map}
 use Rattle.gr_hist.specs.Spelling.{id_bytes, operation_word, reducer_part, reply_part}
 use Rattle.gr_hist.proofs.Trails.{call_written}
-use Rattle.gr_hist.proofs.writing.put_call.Goals as goal
+use Rattle.gr_hist.proofs.entry_lines.put_call.Goals as goal
 
 pub returns-clause-text : goal.returns-clause-text
 returns-clause-text c =

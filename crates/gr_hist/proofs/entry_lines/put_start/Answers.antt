@@ -1,7 +1,7 @@
 use Rattle.std.proofs.Common.{◌≡◌, subst, List, ℕ, OnOk, decimal, map}
 use Rattle.gr_hist.specs.Spelling.{child_part, how_part, id_bytes}
 use Rattle.gr_hist.proofs.Trails.{start_written}
-use Rattle.gr_hist.proofs.writing.put_start.Goals as goal
+use Rattle.gr_hist.proofs.entry_lines.put_start.Goals as goal
 
 pub returns-clause-text : goal.returns-clause-text
 returns-clause-text c =

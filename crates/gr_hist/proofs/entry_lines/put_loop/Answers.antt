@@ -1,7 +1,7 @@
 use Rattle.std.proofs.Common.{◌≡◌, subst, List, ℕ, OnOk, decimal, map}
 use Rattle.gr_hist.specs.Spelling.{id_bytes, range_part}
 use Rattle.gr_hist.proofs.Trails.{loop_written}
-use Rattle.gr_hist.proofs.writing.put_loop.Goals as goal
+use Rattle.gr_hist.proofs.entry_lines.put_loop.Goals as goal
 
 pub returns-clause-text : goal.returns-clause-text
 returns-clause-text c =
