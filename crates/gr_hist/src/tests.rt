@@ -214,7 +214,6 @@ fn text(alloc: Global) -> Result<Program, AllocError>
     })
 }
 
-#[tactic(auto, using(crate::proofs::Examples::accepted))]
 fn program(alloc: Global) -> Result<Accepted, AllocError> {
     let program = text(alloc)?;
     Ok(Accepted::new(program))
