@@ -11,3 +11,7 @@ pub mod Calling
 pub mod Acting
 pub mod LineBytes
 pub mod Readings
+pub mod Trails
+pub mod Counts
+pub mod WrittenReads
+pub mod Examples

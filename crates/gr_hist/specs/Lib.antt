@@ -5,3 +5,4 @@ pub mod Naming
 pub mod Reading
 pub mod Lines
 pub mod Written
+pub mod Rows

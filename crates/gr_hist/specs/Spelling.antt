@@ -70,6 +70,10 @@ how_part how.Here = codes "spawn" ∷ []
 how_part (how.At core) = codes "spawn" ∷ codes "at" ∷ decimal core ∷ []
 how_part how.Offer = codes "offer" ∷ []
 
+-- The range of a loop and its grain.
+abbrev pub range_part : ℕ → ℕ → ℕ → List Bytes
+range_part lo hi grain = codes "forall" ∷ decimal lo ∷ decimal hi ∷ codes "grain" ∷ decimal grain ∷ []
+
 -- The new task, behind `as`.
 abbrev pub child_part : TaskId → List Bytes
 child_part child = codes "as" ∷ id_bytes child ∷ []
@@ -80,7 +84,7 @@ parts_of (entry.Call task object op reducer numbers reply) = id_bytes task ∷ o
 parts_of (entry.Print task word) = id_bytes task ∷ codes "print" ∷ decimal word ∷ []
 parts_of (entry.Spawn task way target args child) = id_bytes task ∷ (how_part way ++ target ∷ (map decimal args ++ child_part child))
 parts_of (entry.Finish task) = id_bytes task ∷ codes "finish" ∷ []
-parts_of (entry.Loop task lo hi grain target args) = id_bytes task ∷ codes "forall" ∷ decimal lo ∷ decimal hi ∷ codes "grain" ∷ decimal grain ∷ target ∷ map decimal args
+parts_of (entry.Loop task lo hi grain target args) = id_bytes task ∷ (range_part lo hi grain ++ target ∷ map decimal args)
 parts_of (entry.Begin owner index child) = id_bytes owner ∷ codes "begin" ∷ decimal index ∷ child_part child
 parts_of (entry.Pass task) = id_bytes task ∷ codes "pass" ∷ []
 parts_of (entry.End task) = id_bytes task ∷ codes "end" ∷ []

@@ -3,13 +3,21 @@
 
 mod calls;
 mod entries;
+mod entry_lines;
 mod fields;
 mod header;
-mod laws;
+pub mod laws;
 mod names;
+mod putting;
 mod reading;
 mod shapes;
 mod starts;
 mod tables;
+#[cfg(test)]
+mod tests;
 pub mod text;
 mod words;
+mod writing;
+
+pub use reading::read;
+pub use writing::write;
