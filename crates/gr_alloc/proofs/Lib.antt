@@ -2,3 +2,5 @@ pub mod Free
 pub mod Meets
 pub mod Trees
 pub mod Ends
+pub mod Climbs
+pub mod Positions

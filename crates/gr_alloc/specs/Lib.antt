@@ -1,2 +1,3 @@
 pub mod HeapBlocks
 pub mod BlockView
+pub mod PeakView

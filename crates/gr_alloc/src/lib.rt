@@ -2,4 +2,6 @@
 #![tactic(auto)]
 
 pub mod blocks;
+pub mod peaks;
 mod search;
+mod nodes;
