@@ -4,3 +4,4 @@ pub mod Trees
 pub mod Ends
 pub mod Climbs
 pub mod Positions
+pub mod Pieces

@@ -1,3 +1,4 @@
 pub mod HeapBlocks
 pub mod BlockView
 pub mod PeakView
+pub mod CutView

@@ -2,6 +2,7 @@
 #![tactic(auto)]
 
 pub mod blocks;
+pub mod cuts;
 pub mod peaks;
 mod search;
 mod nodes;
