@@ -5,3 +5,4 @@ pub mod Ends
 pub mod Climbs
 pub mod Positions
 pub mod Pieces
+pub mod Changed

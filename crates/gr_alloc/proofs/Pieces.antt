@@ -21,6 +21,7 @@ two_set xs i a j b low high apart = record {
 
 pub split_cut : (xs ys : List ℕ) (o c s : ℕ) → IsCut xs → slice_index xs o ≡ s → 0 < c → c < s → Two xs ys o c (o + c) (s - c) → IsCut ys
 split_cut xs ys o c s cut size some fewer two = record {
+  few = omega (arith, cut.few, two.same_length);
   begins = λ h. grind (arith, two.elsewhere 0, two.at_first, two.at_second, two.same_length, cut.begins);
   within = λ at h. grind (arith, two.elsewhere at, two.at_first, two.at_second, two.same_length, cut.within at, cut.within o);
   alone = λ at k low high. grind (arith, two.elsewhere at, two.elsewhere k, two.at_first, two.at_second, cut.alone at k, cut.alone at o, cut.alone o k, cut.alone o at, size);
@@ -37,6 +38,7 @@ split_ends xs ys es fs o c s cut ends size some fewer two ends_two = record {
 
 pub join_cut : (xs ys : List ℕ) (o s t : ℕ) → IsCut xs → slice_index xs o ≡ s → slice_index xs (o + s) ≡ t → 0 < s → 0 < t → Two xs ys o (s + t) (o + s) 0 → IsCut ys
 join_cut xs ys o s t cut size next some more two = record {
+  few = omega (arith, cut.few, two.same_length);
   begins = λ h. grind (arith, two.elsewhere 0, two.at_first, two.at_second, two.same_length, cut.begins);
   within = λ at h. grind (arith, two.elsewhere at, two.at_first, two.at_second, two.same_length, cut.within at, cut.within (o + s), size, next);
   alone = λ at k low high. grind (arith, two.elsewhere at, two.elsewhere k, two.at_first, two.at_second, cut.alone at k, cut.alone o k, cut.alone (o + s) k, cut.alone at o, size, next);

@@ -2,8 +2,9 @@
 use Rattle.std.specs.Prelude.{◌≡◌, ℕ, ◌+◌, ◌-◌, ◌<◌, ◌≤◌, ◌^◌, List, length, slice_index, slice_set}
 use Rattle.gr_alloc.specs.declared.cuts.Cuts.TheInside.{Inside}
 
--- The pieces cover all places, and no two overlap.
+-- The pieces cover all places, at most 2^24 of them, and no two overlap.
 pub record IsCut (sizes : List ℕ) : Type 0 where
+  pub few : length sizes ≤ 2 ^ 24
   pub begins : 0 < length sizes → 0 < slice_index sizes 0
   pub within : (at : ℕ) → 0 < slice_index sizes at → at + slice_index sizes at ≤ length sizes
   pub alone : (at k : ℕ) → at < k → k < at + slice_index sizes at → slice_index sizes k ≡ 0
@@ -25,6 +26,5 @@ abbrev pub joined_at : List ℕ → ℕ → List ℕ
 joined_at sizes at = let middle = at + slice_index sizes at in slice_set (slice_set sizes at (slice_index sizes at + slice_index sizes middle)) middle 0
 
 pub record IsCuts (c : Inside) : Type 0 where
-  pub small : length c.sizes.items < 2 ^ 32
   pub cut : IsCut c.sizes.items
   pub ends : AreEnds c.sizes.items c.ends.items

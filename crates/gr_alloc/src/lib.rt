@@ -3,6 +3,7 @@
 
 pub mod blocks;
 pub mod cuts;
+pub mod holes;
 pub mod peaks;
 mod search;
 mod nodes;

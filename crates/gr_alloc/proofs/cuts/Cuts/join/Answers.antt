@@ -16,7 +16,7 @@ overflow_add-words c =
     let next : slice_index xs (o + s) ≡ t = sym (get_or_read xs (o + s) t (omega arith) c.index.ensures 0) in
     let more = cut.goes_on o there behind in
     let place = ap (λ n. slice_index xs (o + n)) size in
-    omega (arith, cut.within (o + s), c.self.invariant.small)
+    omega (arith, cut.within (o + s), cut.few)
 
 pub invariant_of-self : goal.invariant_of-self
 invariant_of-self c =
@@ -37,7 +37,6 @@ invariant_of-self c =
     let two = two_set xs o (s + t) (o + s) 0 (omega arith) (omega arith) (λ e. absurd (omega (arith, e))) in
     let ends_two = two_set es (o + s) 0 (o + (s + t)) (s + t) (omega (arith, ends.whole)) (omega (arith, ends.whole)) (λ e. absurd (omega (arith, e))) in
     record {
-      small = omega (arith, two.same_length, c.self.invariant.small);
       cut = join_cut xs _ o s t cut size next (omega arith) (omega arith) two;
       ends = join_ends xs _ es _ o s t cut ends size next (omega arith) (omega arith) two ends_two;
     }

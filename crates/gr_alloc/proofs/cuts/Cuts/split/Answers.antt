@@ -18,7 +18,6 @@ invariant_of-self c =
     let two = two_set xs o f (o + f) (s - f) (omega arith) (omega arith) (λ e. absurd (omega (arith, e))) in
     let ends_two = two_set es (o + f) f (o + s) (s - f) (omega (arith, ends.whole)) (omega (arith, ends.whole)) (λ e. absurd (omega (arith, e))) in
     record {
-      small = omega (arith, two.same_length, c.self.invariant.small);
       cut = split_cut xs _ o f s cut size c.requires.some (omega arith) two;
       ends = split_ends xs _ es _ o f s cut ends size c.requires.some (omega arith) two ends_two;
     }
