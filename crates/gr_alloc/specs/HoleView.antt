@@ -1,5 +1,6 @@
 -- Which pieces of a cut are holes, and which live blocks the others are.
-use Rattle.std.specs.Prelude.{◌≡◌, ◌≢◌, ℕ, ◌+◌, ◌<◌, ◌≤◌, ◌==◌, if◌then◌else◌, List, length, slice_index, Option, Some, None}
+use Rattle.std.specs.Prelude.{◌≡◌, ◌≢◌, ℕ, ◌+◌, ◌-◌, ◌<◌, ◌≤◌, ◌==◌, ◌&&◌, if◌then◌else◌, nat_le, nat_lt, List, length, position, slice_index, Option, Some, None}
+use Rattle.gr_lang.specs.Objects.{Heap}
 use Rattle.gr_alloc.specs.CutView.{IsCut}
 
 -- At the place where a hole starts stands its number of words, at the others 0. No two holes lie side by side.
@@ -30,3 +31,11 @@ NoHoleBefore holes at = (k : ℕ) → 0 < slice_index holes k → k + slice_inde
 pub record Changes (sizes holes sizes_now holes_now : List ℕ) (at : ℕ) (block : Option ℕ) : Type 0 where
   pub here : live_at sizes_now holes_now at ≡ block
   pub others : (k : ℕ) → k ≢ at → live_at sizes_now holes_now k ≡ live_at sizes holes k
+
+-- The place of the first hole of at least n words; none for n = 0.
+abbrev pub first_hole : List ℕ → ℕ → Option ℕ
+first_hole holes n = if n == 0 then None else position (λ size. nat_le n size) holes
+
+-- How far an address lies behind the heap's first one, where it is one of the heap's.
+abbrev pub place_in : Heap → ℕ → Option ℕ
+place_in heap at = if nat_le heap.from at && nat_lt at (heap.from + heap.count) then Some (at - heap.from) else None

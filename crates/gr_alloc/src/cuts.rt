@@ -38,7 +38,8 @@ impl Cuts {
     /// One piece of so many words. `Err` when memory runs out.
     pub fn new(alloc: Global, words: usize) -> Result<Cuts, AllocError>
         requires { words ≤ 2 ^ 24 }
-        ensures { IfOk result (λ cuts. cuts ≡ slice_set (replicate words 0) 0 words) }
+        ensures value { IfOk result (λ cuts. cuts ≡ slice_set (replicate words 0) 0 words) }
+        ensures cut { IfOk result (λ cuts. IsCut cuts) }
     {
         let mut sizes = vec![in alloc; 0; words]?;
         let mut ends = vec![in alloc; 0; words + 1]?;

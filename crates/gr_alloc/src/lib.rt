@@ -4,6 +4,5 @@
 pub mod blocks;
 pub mod cuts;
 pub mod holes;
-pub mod peaks;
-mod search;
 mod nodes;
+pub mod peaks;

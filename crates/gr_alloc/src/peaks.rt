@@ -26,10 +26,12 @@ impl Model for Peaks {
 }
 
 impl Peaks {
-    /// Zeros, at least so many. `Err` when memory runs out.
+    /// Zeros, at least so many, and at least one. `Err` when memory runs out.
     pub fn new(alloc: Global, count: usize) -> Result<Peaks, AllocError>
         requires { count ≤ 2 ^ 24 }
-        ensures { IfOk result (λ peaks. (count ≤ length peaks) × (peaks ≡ replicate (length peaks) 0)) }
+        ensures enough { IfOk result (λ peaks. count ≤ length peaks) }
+        ensures some { IfOk result (λ peaks. 0 < length peaks) }
+        ensures zeros { IfOk result (λ peaks. peaks ≡ replicate (length peaks) 0) }
     {
         let mut levels = 0;
         let mut leaves = 1;
