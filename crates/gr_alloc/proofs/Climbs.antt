@@ -1,5 +1,5 @@
 -- What a node of a tree of peaks says of the leaves below it, and the way from the root to the first leaf that is great enough.
-use Rattle.std.proofs.Common.{◌≡◌, ℕ, zero, suc, ◌+◌, ◌-◌, ◌*◌, ◌/◌, ◌^◌, ◌<◌, ◌≤◌, List, length, slice_index, refl, sym, ap, ◌∙◌, subst, arith, max, ⊎_elim, ◌⊎◌}
+use Rattle.std.proofs.Common.{◌≡◌, ℕ, zero, suc, ◌+◌, ◌-◌, ◌*◌, ◌/◌, ◌^◌, ◌<◌, ◌≤◌, List, slice_index, refl, sym, ap, ◌∙◌, subst, arith, ⊎_elim, ◌⊎◌}
 use Rattle.std.proofs.Math.Nat.{pow-suc, one-le-pow}
 use Rattle.std.proofs.Math.Pow.{pow_mono}
 use Rattle.std.proofs.lemmas.Bool.{cases_lt}
@@ -17,9 +17,9 @@ doubled a p q h = grind arith
 low_half : (tree : List ℕ) (k m : ℕ) → IsPeak tree k → k ≡ m / 2 → slice_index tree m ≤ slice_index tree k
 low_half tree k m peak half =
     ⊎_elim
-      (λ even. let e : m ≡ 2 * k = omega arith in subst (λ x. slice_index tree x ≤ slice_index tree k) (sym e) (omega (arith, peak)))
-      (λ odd. let e : m ≡ 2 * k + 1 = omega arith in subst (λ x. slice_index tree x ≤ slice_index tree k) (sym e) (omega (arith, peak)))
-      (cases_lt m (2 * k + 1))
+    (λ even. let e : m ≡ 2 * k = omega arith in subst (λ x. slice_index tree x ≤ slice_index tree k) (sym e) (omega (arith, peak)))
+    (λ odd. let e : m ≡ 2 * k + 1 = omega arith in subst (λ x. slice_index tree x ≤ slice_index tree k) (sym e) (omega (arith, peak)))
+    (cases_lt m (2 * k + 1))
 
 pub above_inside : (j k n : ℕ) → k < n → above j k < n
 above_inside zero k n h = h
@@ -104,12 +104,12 @@ to_right tree levels need i node left next is deeper way e h f =
       found = omega (arith, peak, way.found);
       first = λ k low high before.
           ⊎_elim
-            (λ less. before_two tree levels need i node deeper way k low high less)
-            (λ same.
-              let under = below_peak tree levels (levels - (i + 1)) k is high (omega (arith, same, positive)) in
-              let at = ap (slice_index tree) (same ∙ sym e) in
-              omega (arith, under, at))
-            (left_or_before (above (levels - (i + 1)) k) node next (omega arith) before);
+          (λ less. before_two tree levels need i node deeper way k low high less)
+          (λ same.
+          let under = below_peak tree levels (levels - (i + 1)) k is high (omega (arith, same, positive)) in
+          let at = ap (slice_index tree) (same ∙ sym e) in
+          omega (arith, under, at))
+          (left_or_before (above (levels - (i + 1)) k) node next (omega arith) before);
     }
 
 pub at_leaf : (tree : List ℕ) (levels need i node : ℕ) → i ≡ levels → IsOnWay tree levels need i node → (k : ℕ) → 2 ^ levels ≤ k → k < node → slice_index tree k < need

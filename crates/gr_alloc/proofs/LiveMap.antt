@@ -1,5 +1,5 @@
 -- What the map of the live blocks answers, and that it changes as the pieces do.
-use Rattle.std.proofs.Common.{◌≡◌, ◌≢◌, ℕ, zero, suc, ◌+◌, ◌-◌, ◌<◌, ◌≤◌, Bool, true, false, cond, List, length, Some, None, refl, sym, ap, ◌∙◌, subst, arith, ⊎_elim, ◌⊎◌, inl, inr}
+use Rattle.std.proofs.Common.{◌≡◌, ◌≢◌, ℕ, zero, suc, ◌+◌, ◌-◌, ◌<◌, ◌≤◌, true, false, cond, List, length, Some, None, refl, sym, ap, ◌∙◌, arith, ⊎_elim, ◌⊎◌, inl, inr}
 use Rattle.std.specs.Prelude.{Option, is_some, if◌then◌else◌, nat_lt, ◌&&◌}
 use Rattle.std.specs.Ordering.{nat_cmp, eq_by_cmp}
 use Rattle.std.specs.Cmp.{nat_cmp_total, unsigned_tied}
@@ -40,15 +40,15 @@ unfolding live_below
 get_place start sizes holes zero k inside = absurd (omega (arith, inside))
 get_place start sizes holes (suc n) k inside =
     ⊎_elim
-      (λ same.
-        let here : start + k ≡ start + n = ap (λ x. start + x) same in
-        ap (map.get (with_live (live_below start sizes holes n) (start + n) (live_at sizes holes n))) here
-        ∙ get_with (live_below start sizes holes n) (start + n) (live_at sizes holes n) (get_outside start sizes holes n (start + n) (inr (omega arith)))
-        ∙ ap (live_at sizes holes) (sym same))
-      (λ apart.
-        get_with_other (live_below start sizes holes n) (start + n) (start + k) (live_at sizes holes n) (λ e. apart (omega (arith, e)))
-        ∙ get_place start sizes holes n k (omega (arith, inside, λ (e : k ≡ n). apart e)))
-      (cases_eq k n)
+    (λ same.
+    let here : start + k ≡ start + n = ap (λ x. start + x) same in
+    ap (map.get (with_live (live_below start sizes holes n) (start + n) (live_at sizes holes n))) here
+    ∙ get_with (live_below start sizes holes n) (start + n) (live_at sizes holes n) (get_outside start sizes holes n (start + n) (inr (omega arith)))
+    ∙ ap (live_at sizes holes) (sym same))
+    (λ apart.
+    get_with_other (live_below start sizes holes n) (start + n) (start + k) (live_at sizes holes n) (λ e. apart (omega (arith, e)))
+    ∙ get_place start sizes holes n k (omega (arith, inside, λ (e : k ≡ n). apart e)))
+    (cases_eq k n)
 
 -- the live blocks with another one at an address, or none
 abbrev pub with_change : Live → ℕ → Option ℕ → Live
@@ -65,33 +65,33 @@ Alike before now start q = map.get now q ≡ map.get before q
 pub where_is : (start n q : ℕ) → (q < start) ⊎ ((start + n ≤ q) ⊎ ((k : ℕ) × (q ≡ start + k) × (k < n)))
 where_is start n q =
     ⊎_elim
-      (λ low. inl low)
-      (λ from. ⊎_elim
-        (λ inside. inr (inr (q - start, omega arith, omega arith)))
-        (λ high. inr (inl high))
-        (cases_lt q (start + n)))
-      (cases_lt q start)
+    (λ low. inl low)
+    (λ from. ⊎_elim
+    (λ inside. inr (inr (q - start, omega arith, omega arith)))
+    (λ high. inr (inl high))
+    (cases_lt q (start + n)))
+    (cases_lt q start)
 
 -- the map changes at one place as the pieces do
 pub changed_map : (start : ℕ) (s h s' h' : List ℕ) (n at : ℕ) (block : Option ℕ) → Changes s h s' h' at block → at < n → live_below start s' h' n ≡ with_change (live_below start s h n) (start + at) block
 changed_map start s h s' h' n at block change inside =
     map.same_map nat_cmp_total map.nat_cmp-IsAntisymmetric _ _ (λ q.
-      let before = live_below start s h n in
-      let after = get_changed before (start + at) q block in
-      ⊎_elim
-        (λ low. get_outside start s' h' n q (inl low) ∙ sym (get_outside start s h n q (inl low)) ∙ sym (ap (λ b. cond b block (map.get before q)) (other_key q (start + at) (λ e. absurd (omega arith)))) ∙ sym after)
-        (λ rest. ⊎_elim
-          (λ high. get_outside start s' h' n q (inr high) ∙ sym (get_outside start s h n q (inr high)) ∙ sym (ap (λ b. cond b block (map.get before q)) (other_key q (start + at) (λ e. absurd (omega arith)))) ∙ sym after)
-          (λ place.
-            let k = place.0 in
-            let new : map.get (live_below start s' h' n) q ≡ live_at s' h' k = ap (map.get (live_below start s' h' n)) place.1 ∙ get_place start s' h' n k place.2 in
-            let old : map.get before q ≡ live_at s h k = ap (map.get before) place.1 ∙ get_place start s h n k place.2 in
-            ⊎_elim
-              (λ same. new ∙ ap (live_at s' h') same ∙ change.here ∙ sym (ap (λ b. cond b block (map.get before q)) (same_key q (start + at) (place.1 ∙ ap (λ x. start + x) same))) ∙ sym after)
-              (λ apart. new ∙ change.others k apart ∙ sym old ∙ sym (ap (λ b. cond b block (map.get before q)) (other_key q (start + at) (λ e. apart (omega (arith, e, place.1))))) ∙ sym after)
-              (cases_eq k at))
-          rest)
-        (where_is start n q))
+    let before = live_below start s h n in
+    let after = get_changed before (start + at) q block in
+    ⊎_elim
+    (λ low. get_outside start s' h' n q (inl low) ∙ sym (get_outside start s h n q (inl low)) ∙ sym (ap (λ b. cond b block (map.get before q)) (other_key q (start + at) (λ e. absurd (omega arith)))) ∙ sym after)
+    (λ rest. ⊎_elim
+    (λ high. get_outside start s' h' n q (inr high) ∙ sym (get_outside start s h n q (inr high)) ∙ sym (ap (λ b. cond b block (map.get before q)) (other_key q (start + at) (λ e. absurd (omega arith)))) ∙ sym after)
+    (λ place.
+    let k = place.0 in
+    let new : map.get (live_below start s' h' n) q ≡ live_at s' h' k = ap (map.get (live_below start s' h' n)) place.1 ∙ get_place start s' h' n k place.2 in
+    let old : map.get before q ≡ live_at s h k = ap (map.get before) place.1 ∙ get_place start s h n k place.2 in
+    ⊎_elim
+    (λ same. new ∙ ap (live_at s' h') same ∙ change.here ∙ sym (ap (λ b. cond b block (map.get before q)) (same_key q (start + at) (place.1 ∙ ap (λ x. start + x) same))) ∙ sym after)
+    (λ apart. new ∙ change.others k apart ∙ sym old ∙ sym (ap (λ b. cond b block (map.get before q)) (other_key q (start + at) (λ e. apart (omega (arith, e, place.1))))) ∙ sym after)
+    (cases_eq k at))
+    rest)
+    (where_is start n q))
 
 abbrev pub heap_of : ℕ → List ℕ → List ℕ → HeapBlocks
 heap_of start s h = record { heap = record { from = start; count = length s }; live = live_below start s h (length s) }
@@ -105,28 +105,28 @@ changed_heap start s h s' h' at block change same inside =
 place_cases : (start n at p : ℕ) → place_in (record { from = start; count = n }) at ≡ Some p → (at ≡ start + p) × (p < n)
 place_cases start n at p is =
     ⊎_elim
-      (λ low. absurd (let e = ap (λ b. if b && nat_lt at (start + n) then Some (at - start) else None) (lt-leb start at low) in cc))
-      (λ from. ⊎_elim
-        (λ inside.
-          let a = ap (λ b. if b && nat_lt at (start + n) then Some (at - start) else None) (le-leb start at from) in
-          let b = ap (λ b. if b then Some (at - start) else None) (lt-ltb at (start + n) inside) in
-          let e : at - start ≡ p = cc in
-          (omega arith, omega arith))
-        (λ past. absurd (let a = ap (λ b. if b && nat_lt at (start + n) then Some (at - start) else None) (le-leb start at from) in let b = ap (λ b. if b then Some (at - start) else None) (le-ltb at (start + n) past) in cc))
-        (cases_lt at (start + n)))
-      (cases_lt at start)
+    (λ low. absurd (let e = ap (λ b. if b && nat_lt at (start + n) then Some (at - start) else None) (lt-leb start at low) in cc))
+    (λ from. ⊎_elim
+    (λ inside.
+    let a = ap (λ b. if b && nat_lt at (start + n) then Some (at - start) else None) (le-leb start at from) in
+    let b = ap (λ b. if b then Some (at - start) else None) (lt-ltb at (start + n) inside) in
+    let e : at - start ≡ p = cc in
+    (omega arith, omega arith))
+    (λ past. absurd (let a = ap (λ b. if b && nat_lt at (start + n) then Some (at - start) else None) (le-leb start at from) in let b = ap (λ b. if b then Some (at - start) else None) (le-ltb at (start + n) past) in cc))
+    (cases_lt at (start + n)))
+    (cases_lt at start)
 
 outside_cases : (start n at : ℕ) → place_in (record { from = start; count = n }) at ≡ None → (at < start) ⊎ (start + n ≤ at)
 outside_cases start n at is =
     ⊎_elim
-      (λ low. inl low)
-      (λ from. ⊎_elim
-        (λ inside. absurd (
-          let a = ap (λ b. if b && nat_lt at (start + n) then Some (at - start) else None) (le-leb start at from) in
-          let b = ap (λ b. if b then Some (at - start) else None) (lt-ltb at (start + n) inside) in cc))
-        (λ past. inr past)
-        (cases_lt at (start + n)))
-      (cases_lt at start)
+    (λ low. inl low)
+    (λ from. ⊎_elim
+    (λ inside. absurd (
+    let a = ap (λ b. if b && nat_lt at (start + n) then Some (at - start) else None) (le-leb start at from) in
+    let b = ap (λ b. if b then Some (at - start) else None) (lt-ltb at (start + n) inside) in cc))
+    (λ past. inr past)
+    (cases_lt at (start + n)))
+    (cases_lt at start)
 
 -- the live block that starts at an address of the heap
 pub live_of_place : (start : ℕ) (s h : List ℕ) (at p : ℕ) → place_in (record { from = start; count = length s }) at ≡ Some p → map.get (live_below start s h (length s)) at ≡ live_at s h p
@@ -143,11 +143,11 @@ address_of start n at p is = sym (place_cases start n at p is).0
 pub remove_none : (live : Live) (at : ℕ) → map.get live at ≡ None → live ≡ map.remove live at
 remove_none live at none =
     map.same_map nat_cmp_total map.nat_cmp-IsAntisymmetric _ _ (λ q.
-      let after = map.get-remove nat_cmp_total live at q in
-      ⊎_elim
-        (λ same. ap (map.get live) same ∙ none ∙ sym (ap (λ b. cond b None (map.get live q)) (same_key q at same)) ∙ sym after)
-        (λ apart. sym (ap (λ b. cond b None (map.get live q)) (other_key q at apart)) ∙ sym after)
-        (cases_eq q at))
+    let after = map.get-remove nat_cmp_total live at q in
+    ⊎_elim
+    (λ same. ap (map.get live) same ∙ none ∙ sym (ap (λ b. cond b None (map.get live q)) (same_key q at same)) ∙ sym after)
+    (λ apart. sym (ap (λ b. cond b None (map.get live q)) (other_key q at apart)) ∙ sym after)
+    (cases_eq q at))
 
 -- there is a live block exactly where the pieces have one
 pub is_some_none : (block : Option ℕ) → false ≡ is_some block → block ≡ None

@@ -1,5 +1,5 @@
 -- The first place of a list, as a tree of peaks finds it.
-use Rattle.std.proofs.Common.{◌≡◌, ℕ, suc, ◌+◌, ◌-◌, ◌*◌, ◌/◌, ◌^◌, ◌<◌, ◌≤◌, Bool, true, false, nat_le, nat_lt, cond, List, length, drop, slice_index, Option, Some, None, refl, sym, ap, ◌∙◌, subst, arith, length-drop, ltb}
+use Rattle.std.proofs.Common.{◌≡◌, ℕ, suc, ◌+◌, ◌-◌, ◌^◌, ◌<◌, ◌≤◌, Bool, true, false, nat_le, nat_lt, cond, List, length, drop, slice_index, Some, None, ap, ◌∙◌, arith, length-drop}
 use Rattle.std.specs.Prelude.{position}
 use Rattle.std.specs.List.{position_or_len}
 use Rattle.std.proofs.lemmas.List.{get_or-drop}
@@ -30,19 +30,19 @@ found_at tree levels need leaf is low inside enough first =
     let place : half + (leaf - half) ≡ leaf = omega arith in
     let here : slice_index (drop half tree) (leaf - half) ≡ slice_index tree leaf = leaf_at tree half (leaf - half) ∙ ap (slice_index tree) place in
     position_is (λ x. nat_le need x) (drop half tree) (leaf - half)
-      (omega (arith, leaves tree levels is, is.whole, pow_double levels))
-      (le-leb need _ (omega (arith, here)))
-      (λ k before. lt-leb need _ (omega (arith, leaf_at tree half k, first (half + k) (omega arith) (omega (arith, before)))))
+    (omega (arith, leaves tree levels is, is.whole, pow_double levels))
+    (le-leb need _ (omega (arith, here)))
+    (λ k before. lt-leb need _ (omega (arith, leaf_at tree half k, first (half + k) (omega arith) (omega (arith, before)))))
 
 pub none_at : (tree : List ℕ) (levels need : ℕ) → IsTree tree levels → slice_index tree 1 < need → position (λ x. nat_le need x) (drop (2 ^ levels) tree) ≡ None
 none_at tree levels need is low =
     let half = 2 ^ levels in
     position_none (λ x. nat_le need x) (drop half tree) (λ k inside.
-      let leaf = half + k in
-      let high : leaf < 2 ^ suc levels = omega (arith, leaves tree levels is, pow_double levels, inside) in
-      let from = above_from levels 1 leaf (omega arith) in
-      let before = above_before levels 2 leaf (omega (arith, pow_double levels)) in
-      let root : above levels leaf ≡ 1 = omega arith in
-      let under = below_peak tree levels levels leaf is high (omega arith) in
-      let top = ap (slice_index tree) root in
-      lt-leb need _ (omega (arith, leaf_at tree half k)))
+    let leaf = half + k in
+    let high : leaf < 2 ^ suc levels = omega (arith, leaves tree levels is, pow_double levels, inside) in
+    let from = above_from levels 1 leaf (omega arith) in
+    let before = above_before levels 2 leaf (omega (arith, pow_double levels)) in
+    let root : above levels leaf ≡ 1 = omega arith in
+    let under = below_peak tree levels levels leaf is high (omega arith) in
+    let top = ap (slice_index tree) root in
+    lt-leb need _ (omega (arith, leaf_at tree half k)))

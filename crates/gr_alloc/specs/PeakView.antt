@@ -1,5 +1,5 @@
 -- The tree of peaks over a list: each node above the leaves holds the greater of the two below it.
-use Rattle.std.specs.Prelude.{◌≡◌, ℕ, zero, suc, ◌+◌, ◌*◌, ◌/◌, ◌^◌, ◌<◌, ◌≤◌, List, length, drop, max, slice_index}
+use Rattle.std.specs.Prelude.{◌≡◌, ℕ, zero, suc, ◌+◌, ◌*◌, ◌/◌, ◌^◌, ◌<◌, List, length, drop, max, slice_index}
 use Rattle.gr_alloc.specs.declared.peaks.Peaks.TheInside.{Inside}
 
 -- The node k holds the greater of the two nodes below it.

@@ -12,6 +12,9 @@ use std::alloc::{AllocError, Global};
 use std::marker::Model;
 
 /// The words of the heap, by their addresses, and which blocks of them are live.
+///
+/// To make a block live, to free one and to look for a place take steps in the logarithm of the heap's
+/// words, and no memory: what they need is there from the start.
 #[derive(Drop)]
 pub struct Blocks {
     start: u64,

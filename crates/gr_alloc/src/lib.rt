@@ -2,7 +2,9 @@
 #![tactic(auto)]
 
 pub mod blocks;
-pub mod cuts;
-pub mod holes;
+#[cfg(test)]
+mod blocks_tests;
+mod cuts;
+mod holes;
 mod nodes;
-pub mod peaks;
+mod peaks;

@@ -43,13 +43,6 @@ impl Peaks {
         Ok(Peaks { tree, levels })
     }
 
-    /// How many numbers there are.
-    pub fn len(&self) -> usize
-        ensures { result ≡ length self.now }
-    {
-        self.tree.len() / 2
-    }
-
     /// The number at a place.
     pub fn get(&self, at: usize) -> u32
         requires { at < length self.now }

@@ -1,4 +1,4 @@
-use Rattle.std.proofs.Common.{ℕ, sym, arith}
+use Rattle.std.proofs.Common.{sym, arith}
 use Rattle.gr_alloc.proofs.Starts.{none_over, great_at, inside_at}
 use Rattle.gr_alloc.proofs.blocks.first_place.Goals as goal
 

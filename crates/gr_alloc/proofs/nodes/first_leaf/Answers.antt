@@ -1,4 +1,4 @@
-use Rattle.std.proofs.Common.{ℕ, ◌*◌, ◌≤◌, slice_index, refl, sym, subst, arith}
+use Rattle.std.proofs.Common.{◌*◌, ◌≤◌, slice_index, refl, sym, subst, arith}
 use Rattle.gr_alloc.proofs.Climbs.{at_root, at_leaf, to_left, to_right, inside_tree}
 use Rattle.gr_alloc.proofs.nodes.first_leaf.Goals.{then-tree-node, else-tree-node}
 use Rattle.gr_alloc.proofs.nodes.first_leaf.Goals as goal

@@ -1,4 +1,4 @@
-use Rattle.std.proofs.Common.{◌≡◌, ◌+◌, false, true, Some, None, sym, ap, ◌∙◌, is_some, length, rules}
+use Rattle.std.proofs.Common.{◌≡◌, false, true, None, sym, ap, ◌∙◌, is_some, length, rules}
 use Rattle.std.specs.FinMap as fin
 use Rattle.gr_alloc.specs.HeapBlocks.{HeapBlocks}
 use Rattle.gr_alloc.specs.HoleView.{live_at}

@@ -1,10 +1,10 @@
-use Rattle.std.proofs.Common.{◌≡◌, ℕ, List, ◌+◌, ◌-◌, ◌<◌, length, slice_index, refl, sym, ap, ◌∙◌, subst, arith}
+use Rattle.std.proofs.Common.{◌≡◌, ℕ, List, ◌+◌, ◌<◌, length, slice_index, sym, ap, subst, arith}
 use Rattle.std.proofs.lemmas.List.{get_or_read}
 use Rattle.gr_alloc.proofs.Pieces.{join_cut, join_ends, two_set}
 use Rattle.gr_alloc.proofs.cuts.Cuts.join.Goals as goal
 
 pub overflow_add-words : goal.overflow_add-words
-overflow_add-words c = 
+overflow_add-words c =
     let xs = c.self.inside.sizes.items in
     let o = c.args.at in
     let s = c.index-first.result.now in

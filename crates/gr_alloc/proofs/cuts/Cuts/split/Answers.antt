@@ -1,6 +1,6 @@
-use Rattle.std.proofs.Common.{◌≡◌, ℕ, List, ◌+◌, ◌-◌, ◌<◌, length, slice_index, refl, sym, ap, ◌∙◌, subst, arith}
+use Rattle.std.proofs.Common.{◌≡◌, ℕ, List, ◌+◌, ◌-◌, ◌<◌, slice_index, sym, subst, arith}
 use Rattle.std.proofs.lemmas.List.{get_or_read}
-use Rattle.gr_alloc.proofs.Pieces.{split_cut, split_ends, two_set, place_inside}
+use Rattle.gr_alloc.proofs.Pieces.{split_cut, split_ends, two_set}
 use Rattle.gr_alloc.proofs.cuts.Cuts.split.Goals as goal
 
 pub invariant_of-self : goal.invariant_of-self

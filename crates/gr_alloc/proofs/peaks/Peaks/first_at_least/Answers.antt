@@ -1,4 +1,4 @@
-use Rattle.std.proofs.Common.{◌≡◌, ℕ, ◌-◌, ◌/◌, ◌*◌, ◌^◌, List, length, slice_index, ◌<◌, nat_le, Some, None, sym, ap, ◌∙◌, arith, rules}
+use Rattle.std.proofs.Common.{◌≡◌, ℕ, ◌-◌, ◌/◌, ◌^◌, List, length, slice_index, ◌<◌, nat_le, Some, sym, ap, ◌∙◌, arith, rules}
 use Rattle.std.specs.Prelude.{position}
 use Rattle.std.proofs.Math.Nat.{one-le-pow}
 use Rattle.std.proofs.lemmas.List.{get_or_read}

@@ -5,7 +5,7 @@ abbrev pub invariant-doubling : goal.invariant-doubling
 invariant-doubling l = record {
   power : l.leaves ≡ 2 ^ l.levels;
   few : l.levels < l.leaves;
-  small : l.leaves ≤ 2 * l.count + 1
+  small : l.leaves ≤ 2 * l.count + 1;
 }
 
 abbrev pub decreases-doubling : goal.decreases-doubling
