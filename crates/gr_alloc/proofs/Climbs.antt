@@ -3,7 +3,12 @@ use Rattle.std.proofs.Common.{◌≡◌, ℕ, zero, suc, ◌+◌, ◌-◌, ◌*�
 use Rattle.std.proofs.Math.Nat.{pow-suc, one-le-pow}
 use Rattle.std.proofs.Math.Pow.{pow_mono}
 use Rattle.std.proofs.lemmas.Bool.{cases_lt}
-use Rattle.gr_alloc.specs.PeakView.{IsTree, IsPeak, above}
+use Rattle.gr_alloc.specs.PeakView.{IsTree, IsPeak}
+
+-- the node so many levels above this one
+abbrev pub above : ℕ → ℕ → ℕ
+above zero node = node
+above (suc levels) node = above levels node / 2
 
 pub pow_double : (n : ℕ) → 2 ^ suc n ≡ 2 * 2 ^ n
 pow_double n = omega (arith, pow-suc 2 n)

@@ -5,8 +5,8 @@ use Rattle.std.specs.List.{position_or_len}
 use Rattle.std.proofs.lemmas.List.{get_or-drop}
 use Rattle.std.proofs.lemmas.List.Sums.{position_or_len_is}
 use Rattle.std.proofs.lemmas.Bool.{lt-ltb, le-ltb, le-leb, lt-leb}
-use Rattle.gr_alloc.specs.PeakView.{IsTree, above}
-use Rattle.gr_alloc.proofs.Climbs.{below_peak, above_from, above_before, pow_double}
+use Rattle.gr_alloc.specs.PeakView.{IsTree}
+use Rattle.gr_alloc.proofs.Climbs.{above, below_peak, above_from, above_before, pow_double}
 
 pub position_is : (p : ℕ → Bool) (xs : List ℕ) (i : ℕ) → i < length xs → p (slice_index xs i) ≡ true → ((k : ℕ) → k < i → p (slice_index xs k) ≡ false) → position p xs ≡ Some i
 position_is p xs i inside here before =

@@ -1,5 +1,5 @@
 -- The first hole of at least n words starts where the least n free words do.
-use Rattle.std.proofs.Common.{◌≡◌, ℕ, zero, suc, ◌+◌, ◌-◌, ◌<◌, ◌≤◌, Bool, true, false, cond, nat_le, List, length, slice_index, Option, Some, None, refl, sym, ap, ◌∙◌, subst, arith, ⊎_elim, ◌⊎◌, inl, inr, ◌||◌}
+use Rattle.std.proofs.Common.{◌≡◌, ◌≢◌, ℕ, zero, suc, ◌+◌, ◌-◌, ◌<◌, ◌≤◌, Bool, true, false, cond, nat_le, List, length, slice_index, Option, Some, None, refl, sym, ap, ◌∙◌, subst, arith, ⊎_elim, ◌⊎◌, inl, inr, ◌||◌}
 use Rattle.std.specs.Prelude.{position, ◌==◌, if◌then◌else◌, IfSome}
 use Rattle.std.specs.Option.{option_map}
 use Rattle.std.specs.List.{position_or_len}
@@ -33,23 +33,41 @@ piece_of sizes (suc p) cut inside =
     (suc p, omega arith, omega (arith, some)))
     (cases_lt (suc p) (at + slice_index sizes at))
 
+-- what lives where a piece of so many words starts, with a hole of so many
+abbrev block_of : ℕ → ℕ → Option ℕ
+block_of hole size = if hole == 0 then (if size == 0 then None else Some size) else None
+
+in_hole : (hole size : ℕ) → hole ≢ 0 → block_of hole size ≡ None
+in_hole hole size some = ap (λ b. if b then (if size == 0 then None else Some size) else None) (ne_eqb hole 0 some)
+
+in_full : (hole size : ℕ) → hole ≡ 0 → block_of hole size ≡ (if size == 0 then None else Some size)
+in_full hole size full = ap (λ b. if b then (if size == 0 then None else Some size) else None) (eq-eqb hole 0 full)
+
+in_none : (hole size : ℕ) → hole ≡ 0 → size ≡ 0 → block_of hole size ≡ None
+in_none hole size full none = in_full hole size full ∙ ap (λ b. if b then None else Some size) (eq-eqb size 0 none)
+
+in_block : (hole size : ℕ) → hole ≡ 0 → size ≢ 0 → block_of hole size ≡ Some size
+in_block hole size full some = in_full hole size full ∙ ap (λ b. if b then None else Some size) (ne_eqb size 0 some)
+
+full_of : (hole size w : ℕ) → block_of hole size ≡ Some w → hole ≡ 0
+full_of hole size w is = ⊎_elim (λ full. full) (λ some. absurd (let e = in_hole hole size some in cc)) (cases_eq hole 0)
+
+some_of : (hole size w : ℕ) → block_of hole size ≡ Some w → size ≢ 0
+some_of hole size w is none = let e = in_none hole size (full_of hole size w is) none in cc
+
+size_of : (hole size w : ℕ) → block_of hole size ≡ Some w → size ≡ w
+size_of hole size w is = let e = in_block hole size (full_of hole size w is) (some_of hole size w is) in cc
+
 live_block : (sizes holes : List ℕ) (k : ℕ) → slice_index holes k ≡ 0 → 0 < slice_index sizes k → live_at sizes holes k ≡ Some (slice_index sizes k)
-live_block sizes holes k full some =
-    ap (λ b. if b then (if slice_index sizes k == 0 then None else Some (slice_index sizes k)) else None) (eq-eqb (slice_index holes k) 0 full)
-    ∙ ap (λ b. if b then None else Some (slice_index sizes k)) (ne_eqb (slice_index sizes k) 0 (λ e. absurd (omega arith)))
+live_block sizes holes k full some = in_block (slice_index holes k) (slice_index sizes k) full (λ e. absurd (omega arith))
 
 -- a live block is a piece that is no hole
 block_is : (sizes holes : List ℕ) (k w : ℕ) → live_at sizes holes k ≡ Some w → (slice_index holes k ≡ 0) × (slice_index sizes k ≡ w) × (0 < w)
 block_is sizes holes k w is =
-    ⊎_elim
-    (λ full. ⊎_elim
-    (λ none. absurd (cc (ap (λ b. if b then (if slice_index sizes k == 0 then None else Some (slice_index sizes k)) else None) (eq-eqb (slice_index holes k) 0 full), ap (λ b. if b then None else Some (slice_index sizes k)) (eq-eqb (slice_index sizes k) 0 none))))
-    (λ some.
-    let words : slice_index sizes k ≡ w = let e = live_block sizes holes k full (omega arith) in cc in
-    (full, words, omega arith))
-    (cases_eq (slice_index sizes k) 0))
-    (λ hole. absurd (cc (ap (λ b. if b then (if slice_index sizes k == 0 then None else Some (slice_index sizes k)) else None) (ne_eqb (slice_index holes k) 0 hole))))
-    (cases_eq (slice_index holes k) 0)
+    let full = full_of (slice_index holes k) (slice_index sizes k) w is in
+    let size = size_of (slice_index holes k) (slice_index sizes k) w is in
+    let some = some_of (slice_index holes k) (slice_index sizes k) w is in
+    (full, size, omega (arith, λ (e : slice_index sizes k ≡ 0). some e))
 
 clear_either : (a b c d : ℕ) → (a ≤ b) ⊎ (c ≤ d) → (nat_le a b || nat_le c d) ≡ true
 clear_either a b c d h = grind (arith, nat_tests)

@@ -16,9 +16,11 @@ unfoldable pub live_below : ℕ → List ℕ → List ℕ → ℕ → map.FinMap
 live_below start sizes holes zero = map.empty
 live_below start sizes holes (suc n) = with_live (live_below start sizes holes n) (start + n) (live_at sizes holes n)
 
+-- The heap with its live blocks.
 abbrev pub blocks_of : Inside → HeapBlocks
 blocks_of b = record { heap = record { from = b.start; count = length b.cuts }; live = live_below b.start b.cuts b.holes (length b.cuts) }
 
+-- The heap's addresses are words of 64 bits, and its free words lie in holes.
 pub record IsBlocks (b : Inside) : Type 0 where
   pub fits : b.start + length b.cuts < 2 ^ 64
   pub holes : AreHoles b.cuts b.holes

@@ -25,6 +25,7 @@ split_at sizes at first = slice_set (slice_set sizes at first) (at + first) (sli
 abbrev pub joined_at : List ℕ → ℕ → List ℕ
 joined_at sizes at = let middle = at + slice_index sizes at in slice_set (slice_set sizes at (slice_index sizes at + slice_index sizes middle)) middle 0
 
+-- The pieces by their starts and by their ends.
 pub record IsCuts (c : Inside) : Type 0 where
   pub cut : IsCut c.sizes.items
   pub ends : AreEnds c.sizes.items c.ends.items

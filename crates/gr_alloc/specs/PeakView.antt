@@ -1,5 +1,5 @@
 -- The tree of peaks over a list: each node above the leaves holds the greater of the two below it.
-use Rattle.std.specs.Prelude.{◌≡◌, ℕ, zero, suc, ◌+◌, ◌*◌, ◌/◌, ◌^◌, ◌<◌, List, length, drop, max, slice_index}
+use Rattle.std.specs.Prelude.{◌≡◌, ℕ, suc, ◌+◌, ◌*◌, ◌^◌, ◌<◌, List, length, drop, max, slice_index}
 use Rattle.gr_alloc.specs.declared.peaks.Peaks.TheInside.{Inside}
 
 -- The node k holds the greater of the two nodes below it.
@@ -15,10 +15,6 @@ pub record IsTree (tree : List ℕ) (levels : ℕ) : Type 0 where
 abbrev pub list_of : Inside → List ℕ
 list_of p = drop (2 ^ p.levels) p.tree.items
 
+-- A tree of so many levels.
 abbrev pub IsPeaks : Inside → Type 0
 IsPeaks p = IsTree p.tree.items p.levels
-
--- The node so many levels above this one.
-abbrev pub above : ℕ → ℕ → ℕ
-above zero node = node
-above (suc levels) node = above levels node / 2

@@ -53,8 +53,7 @@ fn first_place(cuts: &Cuts, holes: &Peaks, count: u64) -> Option<usize>
     if count > cuts.len() as u64 {
         return None;
     }
-    let place = holes.first_at_least(count as u32);
-    place
+    holes.first_at_least(count as u32)
 }
 
 /// How far an address lies behind the heap's first one, where it is one of the heap's.

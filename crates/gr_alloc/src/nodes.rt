@@ -1,6 +1,6 @@
 //! Trees of peaks in an array.
-ghost use Rattle.std.specs.Prelude.{◌≡◌, ◌+◌, ◌*◌, ◌<◌, ◌≤◌, ◌^◌, IfOk, length, slice_index, drop, slice_set, suc, ℕ};
-ghost use Rattle.gr_alloc.specs.PeakView.{IsTree, above};
+ghost use Rattle.std.specs.Prelude.{◌≡◌, ◌+◌, ◌*◌, ◌<◌, ◌≤◌, ◌^◌, ℕ, drop, length, slice_index, slice_set};
+ghost use Rattle.gr_alloc.specs.PeakView.{IsTree};
 
 /// Puts a number at a leaf, and the peaks above it right.
 pub(crate) fn set_leaf(tree: &mut [u32], levels: u32, leaf: usize, number: u32)

@@ -1,5 +1,5 @@
 //! Numbers by their places, with the first that is at least so great found in few steps.
-ghost use Rattle.std.specs.Prelude.{◌≡◌, ◌+◌, ◌*◌, ◌<◌, ◌≤◌, ◌^◌, IfOk, length, nat_le, position, replicate, slice_index, slice_set, suc};
+ghost use Rattle.std.specs.Prelude.{◌≡◌, ◌+◌, ◌*◌, ◌<◌, ◌≤◌, ◌^◌, IfOk, length, nat_le, position, replicate, slice_index, slice_set};
 
 use crate::nodes::{first_leaf, set_leaf};
 use std::alloc::{AllocError, Global};

@@ -6,7 +6,7 @@ pub returns-then-count-len-clause-value : goal.returns-then-count-len-clause-val
 returns-then-count-len-clause-value c = sym (none_over c.args.cuts.now c.args.holes.now c.args.count c.requires (omega arith))
 
 pub returns-clause-fits : goal.returns-clause-fits
-returns-clause-fits c = great_at c.args.holes.now c.args.count c.first_at_least-place.result c.first_at_least-place.ensures
+returns-clause-fits c = great_at c.args.holes.now c.args.count c.first_at_least.result c.first_at_least.ensures
 
 pub returns-clause-inside : goal.returns-clause-inside
-returns-clause-inside c = inside_at c.args.cuts.now c.args.holes.now c.args.count c.requires (omega arith) c.first_at_least-place.result c.first_at_least-place.ensures
+returns-clause-inside c = inside_at c.args.cuts.now c.args.holes.now c.args.count c.requires (omega arith) c.first_at_least.result c.first_at_least.ensures
