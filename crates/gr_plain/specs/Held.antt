@@ -15,7 +15,7 @@ use Rattle.gr_lang.specs.declared.action.TrapKind.{TrapKind}
 use Rattle.gr_lang.specs.declared.action.TrapKind.TheVariants as trap
 use Rattle.gr_lang.specs.Fields.{same_how, same_trap}
 use Rattle.gr_lang.specs.Objects.{Objects, call}
-use Rattle.gr_lang.specs.States.{State, Task, is_going, is_at_loop, innermost}
+use Rattle.gr_lang.specs.States.{State, Task, is_going, is_at_loop, innermost, left}
 use Rattle.gr_lang.specs.Steps.{step, has_core}
 use Rattle.gr_plain.specs.ScopeView.{args_of, begins_in}
 use Rattle.gr_plain.specs.StackView.{top_of}
@@ -96,6 +96,12 @@ begin_args S s index = option_map_or (λ x. args_of x.range index) (slice_get S.
 -- The scope that the task waits to pass.
 abbrev pub due_pass : State → TaskId → Option ℕ
 due_pass S id = option_and_then (λ t. if is_at_loop t.mode || (is_going t.mode && is_arrive t.action) then top_of t.opened else None) (fin.get S.tasks id)
+
+-- Whether work is left under the scope that the entry passes.
+abbrev pub is_blocked : State → Entry → Bool
+is_blocked S (e.Pass id) = option_map_or (λ s. left S s) (due_pass S id) false
+is_blocked S e.Over = left S 0
+is_blocked S _ = false
 
 abbrev pub due_end : State → TaskId → Bool
 due_end S id = option_map_or (λ t. is_going t.mode && is_end t.action) (fin.get S.tasks id) false

@@ -7,5 +7,7 @@ pub mod StackView
 pub mod ScopeView
 pub mod TaskView
 pub mod Held
+pub mod Counts
+pub mod MachineView
 pub mod PlainView
 pub mod Laws

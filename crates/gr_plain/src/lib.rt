@@ -2,10 +2,12 @@
 #![tactic(auto)]
 
 pub mod actions;
+pub mod counts;
 pub mod dues;
 pub mod expressions;
 pub mod laws;
 pub mod locals;
+pub mod machine;
 pub mod opening;
 pub mod plain;
 #[cfg(test)]
