@@ -1,6 +1,10 @@
 -- Tree sets and tree maps with numbers as keys, seen as finite sets and finite maps.
-use Rattle.std.proofs.Common.{◌≡◌, ℕ, List, [], ◌∷◌, Bool, true, false, not, ◌&&◌, ◌||◌, Option, Some, None, refl, sym, ap, ◌∙◌, cond}
-use Rattle.std.specs.Ordering.{nat_cmp, eq_by_cmp}
+use Rattle.std.proofs.Common.{◌≡◌, ℕ, ◌+◌, List, [], ◌∷◌, Bool, true, false, not, ◌&&◌, ◌||◌, Option, Some, None, refl, sym, ap, ◌∙◌, cond, length, add-one}
+use Rattle.std.specs.Ordering.{nat_cmp, eq_by_cmp, is_eq}
+use Rattle.std.specs.declared.cmp.Ordering.TheVariants.{Less}
+use Rattle.std.specs.List.{AllByRecursion}
+use Rattle.std.specs.List.Sorted.{IsStrictlySortedBy}
+use Rattle.std.proofs.lemmas.Map.Keys.{sorted_head, sorted_tail}
 use Rattle.std.specs.Cmp.{nat_cmp_total, eq_by_cmp_equiv}
 use Rattle.std.specs.List.{list_any}
 use Rattle.std.specs.FinMap as map
@@ -28,6 +32,20 @@ pub take_key : (ks ls : List ℕ) (k : ℕ) → ((q : ℕ) → list_any (is_at (
 take_key ks ls k h = set.same_set nat_cmp_total set.nat_cmp-IsAntisymmetric _ _ (λ q.
     has_key ls q ∙ h q ∙ and_is (is_at (nat_cmp k) q) (list_any (is_at (nat_cmp q)) ks) ∙ ap (λ b. not b && list_any (is_at (nat_cmp q)) ks) ((eq_by_cmp_equiv nat_cmp_total).symm k q)
     ∙ sym (set.contains-remove nat_cmp_total (set.from_list ks) k q ∙ ap (λ b. not (eq_by_cmp nat_cmp q k) && b) (has_key ks q)))
+
+absent : (k : ℕ) (ks : List ℕ) → AllByRecursion (λ y. nat_cmp k y ≡ Less) ks → list_any (is_at (nat_cmp k)) ks ≡ false
+absent k [] h = refl
+absent k (x ∷ xs) h = ap (λ r. is_eq r || list_any (is_at (nat_cmp k)) xs) h.0 ∙ absent k xs h.1
+
+-- a set has as many words as the tree that holds them in order
+pub count_keys : (ks : List ℕ) → IsStrictlySortedBy nat_cmp ks → set.len (set.from_list {R = nat_cmp} ks) ≡ length ks
+count_keys [] sorted = set.len-empty nat_cmp
+count_keys (k ∷ ks) sorted =
+    let rest = set.from_list {R = nat_cmp} ks in
+    set.len-insert nat_cmp_total rest k
+    ∙ ap (λ b. cond b (set.len rest) (set.len rest + 1)) (has_key ks k ∙ absent k ks (sorted_head nat_cmp k ks sorted))
+    ∙ ap (λ n. n + 1) (count_keys ks (sorted_tail nat_cmp k ks sorted))
+    ∙ add-one (length ks)
 
 abbrev pub at_key : List (ℕ × ℕ) → ℕ → Option ℕ
 at_key es q = lookup (is_at (nat_cmp q)) es

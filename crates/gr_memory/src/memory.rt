@@ -1,11 +1,12 @@
 //! The plain memory: words in arrays and the heap, sets, maps, vectors and the live blocks.
-ghost use Rattle.std.specs.Prelude.{◌≡◌, ◌+◌, ◌≤◌, ◌<◌, [], ℕ, All, IfSome, OnOk, length, slice_index, slice_set};
+ghost use Rattle.std.specs.Prelude.{◌≡◌, ◌+◌, ◌≤◌, ◌<◌, ◌^◌, ℕ, All, IfOk, IfSome, OnOk, length, slice_index, slice_set};
+ghost use Rattle.std.specs.FinMap as fin;
 ghost use Rattle.gr_lang.specs.Objects as spec;
 ghost use Rattle.gr_memory.specs.ThingCalls.{word_after, things_after, things_reply};
 ghost use Rattle.gr_memory.specs.ThingView.{things_of, LiesIn};
 
-use crate::blocks::{Block, add_block, free_blocks, is_live, start_for};
 use crate::things::{Thing, apply_at, nothing, one, reduced, reply_of, whether};
+use gr_alloc::blocks::Blocks;
 use gr_lang::action::{Op, Reply};
 use gr_lang::operation::HEAP;
 use std::alloc::{AllocError, Global};
@@ -16,9 +17,7 @@ use std::marker::Model;
 pub struct Memory {
     words: Vec<u64>,
     things: Vec<Thing>,
-    heap_from: u64,
-    heap_count: u64,
-    live: Vec<Block>,
+    blocks: Blocks,
 }
 
 impl Model for Memory {
@@ -41,25 +40,25 @@ impl Model for Memory {
 
 impl Memory {
     /// The memory at the start of a run. Its arrays and its heap, of `heap_count` words from the address
-    /// `heap_from` on, lie in the words, and no block is live.
+    /// `heap_from` on, at most 2^24, lie in the words, and no block is live. `Err` when memory runs out.
     pub fn new(
         alloc: Global,
         words: Vec<u64>,
         things: Vec<Thing>,
         heap_from: u64,
         heap_count: u64,
-    ) -> Memory
+    ) -> Result<Memory, AllocError>
         requires arrays { All (LiesIn (length words.items)) things.items }
         requires heap { heap_from + heap_count ≤ length words.items }
-        ensures { result ≡ record { words = words.items; things = things_of things.items; heap = record { from = heap_from; count = heap_count }; live = [] } }
+        requires small { heap_count ≤ 2 ^ 24 }
+        ensures { IfOk result (λ memory. memory ≡ record { words = words.items; things = things_of things.items; heap = record { from = heap_from; count = heap_count }; live = fin.empty }) }
     {
-        Memory {
+        let blocks = Blocks::new(alloc, heap_from, heap_count)?;
+        Ok(Memory {
             words,
             things,
-            heap_from,
-            heap_count,
-            live: Vec::new(alloc),
-        }
+            blocks,
+        })
     }
 
     /// The address of a place of an object, where the object has that place. The heap's places are
@@ -69,7 +68,7 @@ impl Memory {
         ensures within { IfSome result (λ at. at < length self.now.words) }
     {
         if object == HEAP {
-            if self.heap_from <= place && place < self.heap_from + self.heap_count {
+            if self.blocks.contains(place) {
                 return Some(place as usize);
             }
             return None;
@@ -145,7 +144,7 @@ impl Memory {
     fn start_for(&self, count: u64) -> Option<u64>
         ensures { result ≡ spec.start_for self.now count }
     {
-        start_for(&self.live, self.heap_from, self.heap_count, count)
+        self.blocks.start_for(count)
     }
 
     fn alloc_reply(&self, count: u64) -> Reply
@@ -160,7 +159,7 @@ impl Memory {
     fn free_reply(&self, place: u64) -> Reply
         ensures { result ≡ (spec.free_at self.now place).1 }
     {
-        whether(is_live(&self.live, place))
+        whether(self.blocks.is_live(place))
     }
 
     /// Makes a call. `Err` when memory runs out: then nothing more is known of what the memory holds.
@@ -212,16 +211,14 @@ impl Memory {
     fn alloc(&mut self, count: u64) -> Result<(), AllocError>
         ensures { OnOk result (self.new ≡ (spec.alloc_at (spec.start_for self.old count) self.old count).0) }
     {
-        match start_for(&self.live, self.heap_from, self.heap_count, count) {
-            Some(start) => add_block(&mut self.live, start, count),
-            None => Ok(()),
-        }
+        self.blocks.alloc(count)?;
+        Ok(())
     }
 
     fn free(&mut self, place: u64)
         ensures { self.new ≡ (spec.free_at self.old place).0 }
     {
-        free_blocks(&mut self.live, place);
+        self.blocks.free(place);
     }
 }
 

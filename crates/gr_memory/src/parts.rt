@@ -43,6 +43,13 @@ impl Keys {
         self.tree.contains(&key)
     }
 
+    /// How many words are in the set.
+    pub fn len(&self) -> usize
+        ensures { result ≡ set.len self.now }
+    {
+        self.tree.len()
+    }
+
     /// Adds a word. `Err` when memory runs out.
     pub fn insert(&mut self, key: u64) -> Result<(), AllocError>
         ensures { OnOk result (self.new ≡ set.insert self.old key) }

@@ -3,11 +3,20 @@ ghost use Rattle.std.specs.Prelude.{All, IfOk};
 ghost use Rattle.gr_memory.specs.ThingView.{LiesIn};
 
 use crate::memory::Memory;
+use crate::parts::Keys;
 use crate::things::Thing;
 use gr_lang::action::{Op, Reply};
 use gr_lang::operation::HEAP;
 use std::alloc::{AllocError, Global};
 use std::test::Fail;
+
+const ARRAY: u64 = 0;
+
+const SET: u64 = 1;
+
+const MAP: u64 = 2;
+
+const VECTOR: u64 = 3;
 
 const NONE: u64 = u64::MAX;
 
@@ -23,10 +32,11 @@ fn things(alloc: Global) -> Result<Vec<Thing>, AllocError>
     Ok(things)
 }
 
+/// Those objects, and a heap of the words 4 to 9.
 fn memory(alloc: Global) -> Result<Memory, AllocError> {
     let words = Vec::from_slice(alloc, &[0; 10])?;
     let things = things(alloc)?;
-    Ok(Memory::new(alloc, words, things, 4, 6))
+    Memory::new(alloc, words, things, 4, 6)
 }
 
 /// The first call with another reply than the one beside it.
@@ -41,256 +51,204 @@ fn first_other_reply(alloc: Global, calls: &[(Op, u64, u64)]) -> Result<Option<O
     Ok(None)
 }
 
+fn read(object: u64, place: u64) -> Op {
+    Op::Read { object, place }
+}
+
+fn write(object: u64, place: u64, word: u64) -> Op {
+    Op::Write {
+        object,
+        place,
+        word,
+    }
+}
+
+fn add(place: u64, word: u64) -> Op {
+    Op::Add {
+        object: ARRAY,
+        place,
+        word,
+    }
+}
+
+fn cas(place: u64, old: u64, new: u64) -> Op {
+    Op::Cas {
+        object: ARRAY,
+        place,
+        old,
+        new,
+    }
+}
+
+fn reduce(reducer: u64, place: u64, word: u64) -> Op {
+    Op::Reduce {
+        object: ARRAY,
+        reducer,
+        place,
+        word,
+    }
+}
+
+fn put(key: u64, word: u64) -> Op {
+    Op::Put {
+        object: MAP,
+        key,
+        word,
+    }
+}
+
+fn merge(reducer: u64, key: u64, word: u64) -> Op {
+    Op::Merge {
+        object: MAP,
+        reducer,
+        key,
+        word,
+    }
+}
+
 #[test]
 fn words_reply_what_they_were(rt: HostRuntime) -> Result<(), Fail> {
-    let other = first_other_reply(
-        rt.alloc(),
-        &[
-            (
-                Op::Read {
-                    object: 0,
-                    place: 1,
-                },
-                0,
-                0,
-            ),
-            (
-                Op::Write {
-                    object: 0,
-                    place: 1,
-                    word: 7,
-                },
-                0,
-                0,
-            ),
-            (
-                Op::Read {
-                    object: 0,
-                    place: 1,
-                },
-                7,
-                0,
-            ),
-            (
-                Op::Read {
-                    object: 0,
-                    place: 2,
-                },
-                0,
-                0,
-            ),
-            (
-                Op::Add {
-                    object: 0,
-                    place: 1,
-                    word: 5,
-                },
-                7,
-                0,
-            ),
-            (
-                Op::Cas {
-                    object: 0,
-                    place: 1,
-                    old: 12,
-                    new: 9,
-                },
-                12,
-                0,
-            ),
-            (
-                Op::Cas {
-                    object: 0,
-                    place: 1,
-                    old: 12,
-                    new: 1,
-                },
-                9,
-                0,
-            ),
-            (
-                Op::Reduce {
-                    object: 0,
-                    reducer: 1,
-                    place: 1,
-                    word: 4,
-                },
-                9,
-                0,
-            ),
-            (
-                Op::Read {
-                    object: 0,
-                    place: 1,
-                },
-                4,
-                0,
-            ),
-            (
-                Op::Read {
-                    object: 0,
-                    place: 4,
-                },
-                0,
-                0,
-            ),
-            (
-                Op::Write {
-                    object: HEAP,
-                    place: 5,
-                    word: 3,
-                },
-                0,
-                0,
-            ),
-            (
-                Op::Read {
-                    object: HEAP,
-                    place: 5,
-                },
-                3,
-                0,
-            ),
-            (
-                Op::Write {
-                    object: HEAP,
-                    place: 1,
-                    word: 8,
-                },
-                0,
-                0,
-            ),
-            (
-                Op::Read {
-                    object: 0,
-                    place: 1,
-                },
-                4,
-                0,
-            ),
-            (
-                Op::Add {
-                    object: 0,
-                    place: 3,
-                    word: u64::MAX,
-                },
-                0,
-                0,
-            ),
-            (
-                Op::Add {
-                    object: 0,
-                    place: 3,
-                    word: 3,
-                },
-                u64::MAX,
-                0,
-            ),
-            (
-                Op::Read {
-                    object: 0,
-                    place: 3,
-                },
-                2,
-                0,
-            ),
-            (Op::Print { word: 5 }, 0, 0),
-        ],
-    )?;
-    assert_eq!(rt; other, None);
+    let calls = [
+        (read(ARRAY, 1), 0, 0),
+        (write(ARRAY, 1, 7), 0, 0),
+        (read(ARRAY, 1), 7, 0),
+        (read(ARRAY, 2), 0, 0),
+        (add(1, 5), 7, 0),
+        (read(ARRAY, 1), 12, 0),
+        (add(3, u64::MAX), 0, 0),
+        (add(3, 3), u64::MAX, 0),
+        (read(ARRAY, 3), 2, 0),
+        (read(ARRAY, 4), 0, 0),
+        (Op::Print { word: 5 }, 0, 0),
+    ];
+    assert_eq!(rt; first_other_reply(rt.alloc(), &calls)?, None);
     Ok(())
 }
 
 #[test]
-fn sets_maps_and_vectors_reply(rt: HostRuntime) -> Result<(), Fail> {
-    let other = first_other_reply(
-        rt.alloc(),
-        &[
-            (Op::Insert { object: 1, key: 6 }, 1, 0),
-            (Op::Insert { object: 1, key: 6 }, 0, 0),
-            (Op::Has { object: 1, key: 6 }, 1, 0),
-            (Op::Remove { object: 1, key: 6 }, 1, 0),
-            (Op::Remove { object: 1, key: 6 }, 0, 0),
-            (Op::Has { object: 1, key: 6 }, 0, 0),
-            (
-                Op::Put {
-                    object: 2,
-                    key: 3,
-                    word: 10,
-                },
-                1,
-                0,
-            ),
-            (
-                Op::Put {
-                    object: 2,
-                    key: 3,
-                    word: 11,
-                },
-                0,
-                0,
-            ),
-            (Op::Get { object: 2, key: 3 }, 1, 11),
-            (
-                Op::Merge {
-                    object: 2,
-                    reducer: 0,
-                    key: 3,
-                    word: 4,
-                },
-                0,
-                0,
-            ),
-            (Op::Get { object: 2, key: 3 }, 1, 15),
-            (
-                Op::Merge {
-                    object: 2,
-                    reducer: 5,
-                    key: 8,
-                    word: 2,
-                },
-                1,
-                0,
-            ),
-            (Op::Get { object: 2, key: 8 }, 1, 2),
-            (Op::Erase { object: 2, key: 3 }, 1, 0),
-            (Op::Erase { object: 2, key: 3 }, 0, 0),
-            (Op::Get { object: 2, key: 3 }, 0, 0),
-            (Op::Push { object: 3, word: 1 }, 0, 0),
-            (Op::Push { object: 3, word: 2 }, 0, 0),
-            (Op::Push { object: 3, word: 3 }, 0, 0),
-            (Op::Pop { object: 3 }, 1, 3),
-            (Op::Dequeue { object: 3 }, 1, 1),
-            (Op::Pop { object: 3 }, 1, 2),
-            (Op::Pop { object: 3 }, 0, 0),
-            (Op::Dequeue { object: 3 }, 0, 0),
-            (Op::Insert { object: 0, key: 6 }, 0, 0),
-            (Op::Push { object: 9, word: 1 }, 0, 0),
-        ],
-    )?;
-    assert_eq!(rt; other, None);
+fn swaps_and_reducers_reply_what_was(rt: HostRuntime) -> Result<(), Fail> {
+    let calls = [
+        (write(ARRAY, 1, 12), 0, 0),
+        (cas(1, 12, 9), 12, 0),
+        (cas(1, 12, 1), 9, 0),
+        (reduce(1, 1, 4), 9, 0),
+        (reduce(2, 1, 3), 4, 0),
+        (read(ARRAY, 1), 4, 0),
+    ];
+    assert_eq!(rt; first_other_reply(rt.alloc(), &calls)?, None);
+    Ok(())
+}
+
+#[test]
+fn the_heap_has_places_by_their_addresses(rt: HostRuntime) -> Result<(), Fail> {
+    let calls = [
+        (write(HEAP, 5, 3), 0, 0),
+        (read(HEAP, 5), 3, 0),
+        (read(HEAP, 4), 0, 0),
+        (write(ARRAY, 1, 6), 0, 0),
+        (write(HEAP, 1, 8), 0, 0),
+        (read(ARRAY, 1), 6, 0),
+        (write(HEAP, 10, 2), 0, 0),
+        (read(HEAP, 10), 0, 0),
+    ];
+    assert_eq!(rt; first_other_reply(rt.alloc(), &calls)?, None);
+    Ok(())
+}
+
+#[test]
+fn sets_reply_what_changed(rt: HostRuntime) -> Result<(), Fail> {
+    let object = SET;
+    let calls = [
+        (Op::Insert { object, key: 6 }, 1, 0),
+        (Op::Insert { object, key: 6 }, 0, 0),
+        (Op::Has { object, key: 6 }, 1, 0),
+        (Op::Remove { object, key: 6 }, 1, 0),
+        (Op::Remove { object, key: 6 }, 0, 0),
+        (Op::Has { object, key: 6 }, 0, 0),
+    ];
+    assert_eq!(rt; first_other_reply(rt.alloc(), &calls)?, None);
+    Ok(())
+}
+
+#[test]
+fn maps_reply_what_was_there(rt: HostRuntime) -> Result<(), Fail> {
+    let object = MAP;
+    let calls = [
+        (put(3, 10), 1, 0),
+        (put(3, 11), 0, 0),
+        (Op::Get { object, key: 3 }, 1, 11),
+        (merge(0, 3, 4), 0, 0),
+        (Op::Get { object, key: 3 }, 1, 15),
+        (merge(5, 8, 2), 1, 0),
+        (Op::Get { object, key: 8 }, 1, 2),
+        (Op::Erase { object, key: 3 }, 1, 0),
+        (Op::Erase { object, key: 3 }, 0, 0),
+        (Op::Get { object, key: 3 }, 0, 0),
+    ];
+    assert_eq!(rt; first_other_reply(rt.alloc(), &calls)?, None);
+    Ok(())
+}
+
+#[test]
+fn vectors_are_open_at_both_ends(rt: HostRuntime) -> Result<(), Fail> {
+    let object = VECTOR;
+    let calls = [
+        (Op::Push { object, word: 1 }, 0, 0),
+        (Op::Push { object, word: 2 }, 0, 0),
+        (Op::Push { object, word: 3 }, 0, 0),
+        (Op::Pop { object }, 1, 3),
+        (Op::Dequeue { object }, 1, 1),
+        (Op::Pop { object }, 1, 2),
+        (Op::Pop { object }, 0, 0),
+        (Op::Dequeue { object }, 0, 0),
+        (Op::Push { object: 9, word: 1 }, 0, 0),
+    ];
+    assert_eq!(rt; first_other_reply(rt.alloc(), &calls)?, None);
+    Ok(())
+}
+
+#[test]
+fn other_kinds_of_objects_give_no_word(rt: HostRuntime) -> Result<(), Fail> {
+    let object = ARRAY;
+    let calls = [
+        (Op::Insert { object, key: 6 }, 0, 0),
+        (Op::Push { object, word: 6 }, 0, 0),
+        (Op::Get { object, key: 0 }, 0, 0),
+        (read(SET, 0), 0, 0),
+        (read(9, 0), 0, 0),
+        (read(ARRAY, 0), 0, 0),
+    ];
+    assert_eq!(rt; first_other_reply(rt.alloc(), &calls)?, None);
     Ok(())
 }
 
 #[test]
 fn the_first_free_place_is_taken(rt: HostRuntime) -> Result<(), Fail> {
-    let other = first_other_reply(
-        rt.alloc(),
-        &[
-            (Op::Alloc { count: 0 }, NONE, 0),
-            (Op::Alloc { count: 7 }, NONE, 0),
-            (Op::Alloc { count: 2 }, 4, 0),
-            (Op::Alloc { count: 3 }, 6, 0),
-            (Op::Alloc { count: 2 }, NONE, 0),
-            (Op::Alloc { count: 1 }, 9, 0),
-            (Op::Free { place: 4 }, 1, 0),
-            (Op::Free { place: 4 }, 0, 0),
-            (Op::Free { place: 7 }, 0, 0),
-            (Op::Alloc { count: 1 }, 4, 0),
-            (Op::Free { place: 6 }, 1, 0),
-            (Op::Alloc { count: 4 }, 5, 0),
-        ],
-    )?;
-    assert_eq!(rt; other, None);
+    let calls = [
+        (Op::Alloc { count: 0 }, NONE, 0),
+        (Op::Alloc { count: 7 }, NONE, 0),
+        (Op::Alloc { count: 2 }, 4, 0),
+        (Op::Alloc { count: 3 }, 6, 0),
+        (Op::Alloc { count: 2 }, NONE, 0),
+        (Op::Alloc { count: 1 }, 9, 0),
+        (Op::Free { place: 4 }, 1, 0),
+        (Op::Free { place: 4 }, 0, 0),
+        (Op::Free { place: 7 }, 0, 0),
+        (Op::Alloc { count: 1 }, 4, 0),
+        (Op::Free { place: 6 }, 1, 0),
+        (Op::Alloc { count: 4 }, 5, 0),
+    ];
+    assert_eq!(rt; first_other_reply(rt.alloc(), &calls)?, None);
+    Ok(())
+}
+
+#[test]
+fn a_set_counts_its_words(rt: HostRuntime) -> Result<(), Fail> {
+    let mut keys = Keys::new(rt.alloc());
+    for key in [4, 2, 4, u64::MAX] {
+        keys.insert(key)?;
+    }
+    assert_eq!(rt; keys.len(), 3);
+    assert!(rt; keys.has(2));
     Ok(())
 }

@@ -11,5 +11,4 @@ invariant_of-self c =
     record {
       arrays = subst (All (LiesIn n)) (sym (with_items_is c.self.inside.things c.apply_at.new.things len)) (c.apply_at.ensures.lie n (subst (All (LiesIn n)) (sym c.deref_mut.ensures.value) c.self.invariant.arrays));
       heap = c.self.invariant.heap;
-      blocks = c.self.invariant.blocks;
     }

@@ -1,0 +1,4 @@
+pub mod Free
+pub mod Meets
+pub mod Trees
+pub mod Ends

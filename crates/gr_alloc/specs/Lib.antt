@@ -1,0 +1,2 @@
+pub mod HeapBlocks
+pub mod BlockView
