@@ -11,3 +11,5 @@ pub mod Effects
 pub mod Changes
 pub mod Numbers
 pub mod Kept
+pub mod Sizes
+pub mod WorkedRows

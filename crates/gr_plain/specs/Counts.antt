@@ -1,5 +1,5 @@
 -- The number of tasks of each scope that haven't ended, and what an entry changes in these numbers.
-use Rattle.std.specs.Prelude.{◌≡◌, ℕ, ◌+◌, ◌-◌, ◌<◌, ◌^◌, List, [], ◌∷◌, ◌++◌, length, slice_index, slice_set, Option, Some, None}
+use Rattle.std.specs.Prelude.{◌≡◌, ℕ, ◌+◌, ◌-◌, ◌<◌, ◌^◌, Bool, ◌||◌, nat_lt, List, [], ◌∷◌, ◌++◌, length, slice_index, slice_set, Option, Some, None}
 use Rattle.std.specs.Option.{option_map, option_and_then}
 use Rattle.std.specs.List.{count_by}
 use Rattle.std.specs.FinMap as fin
@@ -8,7 +8,7 @@ use Rattle.gr_lang.specs.declared.action.Entry.TheVariants as e
 use Rattle.gr_lang.specs.declared.syntax.Program.{Program}
 use Rattle.gr_lang.specs.States.{State, Task, innermost, id_cmp}
 use Rattle.gr_valid.specs.Valid.{IsValid}
-use Rattle.gr_valid.specs.Work.{works_in}
+use Rattle.gr_valid.specs.Work.{has_index, works_in}
 use Rattle.gr_plain.specs.StackView.{top_of}
 use Rattle.gr_plain.specs.declared.counts.Change.{Change}
 use Rattle.gr_plain.specs.declared.counts.Change.TheVariants as c
@@ -22,6 +22,10 @@ pub record IsCounted (p : Program) (S : State) (counts : List ℕ) : Type 0 wher
   pub valid : IsValid p S
   pub scopes : length counts ≡ length S.scopes
   pub unended : (s : ℕ) → slice_index counts s ≡ unended_of S.tasks s
+
+-- Whether work stands in the scope itself: a task that hasn't ended, or an index that hasn't begun.
+abbrev pub is_work_in : List ℕ → State → ℕ → Bool
+is_work_in counts S s = nat_lt 0 (slice_index counts s) || has_index S s
 
 -- A task begins in the scope, if there is one.
 abbrev pub begins_in : Option ℕ → Change

@@ -1,6 +1,7 @@
 pub mod LocalView
 pub mod Ranges
 pub mod TableView
+pub mod Sizes
 pub mod RunningView
 pub mod Turns
 pub mod StackView
@@ -11,3 +12,4 @@ pub mod Counts
 pub mod MachineView
 pub mod PlainView
 pub mod Laws
+pub mod Worked

@@ -39,6 +39,16 @@ impl Change {
     }
 }
 
+/// The number of the scope; 0 where there is no such scope.
+pub fn number_in(unended: &[u64], scope: u64) -> u64
+    ensures { result ≡ slice_index unended.now scope }
+{
+    match unended.get(scope as usize) {
+        None => 0,
+        Some(number) => *number,
+    }
+}
+
 fn raise(unended: &mut [u64], scope: u64)
     requires within { scope < length unended.old }
     requires fits { slice_index unended.old scope + 1 < 2 ^ 64 }

@@ -13,7 +13,11 @@ pub mod plain;
 #[cfg(test)]
 mod plain_tests;
 pub mod running;
+#[cfg(test)]
+mod scope_tests;
 pub mod scopes;
 pub mod table;
 pub mod tasks;
 pub mod word_stack;
+#[cfg(test)]
+mod worked;

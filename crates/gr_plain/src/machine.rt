@@ -64,6 +64,7 @@ impl<'a> Model for Machine<'a> {
 impl<'a> Machine<'a> {
     /// The state before the first entry: the opening objects, and `main` at its first action. `steps` is
     /// the limit of pure steps between two actions.
+    #[tactic(auto, using(crate::proofs::Sizes::heap_small))]
     pub fn start(
         alloc: Global,
         program: &'a Accepted,

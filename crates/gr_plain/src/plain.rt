@@ -1,11 +1,10 @@
 //! The plain memory with its tasks, as a machine that takes the entries of a history one by one.
-ghost use Rattle.std.specs.Prelude.{◌≡◌, ◌||◌, IfOk, None, OnOk, Some};
+ghost use Rattle.std.specs.Prelude.{◌≡◌, IfOk, None, OnOk, Some};
 ghost use Rattle.gr_lang.specs.States.{opening_state};
-ghost use Rattle.gr_plain.specs.Counts.{IsCounted};
+ghost use Rattle.gr_plain.specs.Counts.{IsCounted, is_work_in as is_work_in_scope};
 ghost use Rattle.gr_plain.specs.Held.{entry_due, is_blocked as is_blocked_by, stepped};
-ghost use Rattle.gr_valid.specs.Work.{has_index, has_task};
 
-use crate::counts::make;
+use crate::counts::{make, number_in};
 use crate::machine::Machine;
 use gr_lang::accepted::Accepted;
 use gr_lang::action::{Entry, TaskId};
@@ -70,15 +69,11 @@ impl<'a> Model for Plain<'a> {
 }
 
 /// Whether a task stands in the scope that hasn't ended, or an index of its range hasn't begun.
-fn has_work(machine: &Machine, unended: &[u64], scope: u64) -> bool
-    requires { IsCounted machine.now.program machine.now.state unended.now }
-    ensures { result ≡ (has_task machine.now.state scope || has_index machine.now.state scope) }
+fn is_work_in(machine: &Machine, unended: &[u64], scope: u64) -> bool
+    ensures { result ≡ is_work_in_scope unended.now machine.now.state scope }
 {
-    let is_task_left = match unended.get(scope as usize) {
-        None => false,
-        Some(count) => *count > 0,
-    };
-    is_task_left || machine.is_range_left(scope)
+    let has_tasks = number_in(unended, scope) > 0;
+    has_tasks || machine.is_range_left(scope)
 }
 
 /// Whether work is left under the scope that the entry passes.
@@ -90,9 +85,9 @@ fn is_blocked(machine: &Machine, unended: &[u64], entry: &Entry) -> bool
     match entry {
         Entry::Pass { task } => match machine.passes(*task) {
             None => false,
-            Some(scope) => has_work(machine, unended, scope),
+            Some(scope) => is_work_in(machine, unended, scope),
         },
-        Entry::Over => has_work(machine, unended, 0),
+        Entry::Over => is_work_in(machine, unended, 0),
         _ => false,
     }
 }
