@@ -18,12 +18,15 @@ pub record Known : Type 0 where
   pub locals : List (List ℕ)
   pub body : List Stmt
 
+-- A task of the table.
 abbrev pub row_of : TaskRow → Known
 row_of r = record { name = r.name.now; locals = map (λ n. n.now) r.locals.items; body = r.body.now }
 
+-- A task with its locals: its parameters, then what its body gives.
 abbrev pub known_of : TaskText → Known
 known_of t = record { name = t.name; locals = t.params ++ lets_of t.body; body = t.body }
 
+-- The tasks in their order.
 abbrev pub knowns_of : List TaskText → List Known
 knowns_of = map known_of
 
@@ -51,10 +54,12 @@ abbrev pub within : Option ℕ → ℕ → Bool
 within None place = false
 within (Some reach) place = nat_lt place reach
 
+-- The range is that of the program's heap.
 pub record IsHeap (h : HeapRange) (p : Program) : Type 0 where
   pub from : h.from ≡ (heap_of p).from
   pub count : h.count ≡ (heap_of p).count
 
+-- The tables are those of the program.
 pub record IsTable (t : Inside) : Type 0 where
   pub objects : map (λ n. n.now) t.objects.items ≡ object_names t.program.now.items
   pub reaches : t.reaches.items ≡ reaches_of t.program.now.items

@@ -6,6 +6,7 @@ use Rattle.gr_plain.specs.declared.running.Top.TheVariants as top
 use Rattle.gr_plain.specs.declared.running.Turn.{Turn}
 use Rattle.gr_plain.specs.declared.running.Turn.TheVariants as turn
 
+-- All but the first thing to do.
 abbrev pub tail_of : List Due → List Due
 tail_of [] = []
 tail_of (t ∷ ts) = ts
@@ -16,10 +17,12 @@ IsTop top.End todo = todo ≡ []
 IsTop top.Arrive todo = todo ≡ arrive ∷ tail_of todo
 IsTop (top.Run stmt) todo = todo ≡ run stmt.now ∷ tail_of todo
 
+-- Whether a pure step stands first.
 abbrev pub is_pure : Look → Bool
 is_pure (pure u) = true
 is_pure (acts a) = false
 
+-- What one turn came to: a pure step is made only where it may be.
 abbrev pub Turns : Bool → Look → Running → Turn → Running → Type 0
 Turns may_move look old turn.Moved new = (may_move ≡ true) × (look ≡ pure (Some new))
 Turns may_move look old turn.Divided new = (may_move ≡ true) × (look ≡ pure None) × (new ≡ old)

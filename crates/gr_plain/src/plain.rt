@@ -137,8 +137,7 @@ impl<'a> Plain<'a> {
     }
 
     /// Takes the next entry of a history. `NotLegal` where the entry is no step, and then nothing has
-    /// changed. After `OutOfMemory` the state is of no more use: each further step answers it too, if
-    /// memory was wanting in the middle of the step.
+    /// changed. After `OutOfMemory` the state is of no more use, and each further step answers it too.
     pub fn step(&mut self, alloc: Global, entry: &Entry) -> Result<(), StepError>
         ensures ok { OnOk result (stepped self.old entry.now ≡ Some self.new) }
         ensures not_legal { result ≡ Err StepError.NotLegal → (stepped self.old entry.now ≡ None) × (self.new ≡ self.old) }
