@@ -1,11 +1,6 @@
-pub mod Hits
-pub mod Ranges
-pub mod Reaches
-pub mod Known
 pub mod Begins
 pub mod Histories
 pub mod Zeros
-pub mod Looks
 pub mod Tallies
 pub mod Effects
 pub mod Changes

@@ -1,9 +1,4 @@
-pub mod LocalView
-pub mod Ranges
-pub mod TableView
 pub mod Sizes
-pub mod RunningView
-pub mod Turns
 pub mod StackView
 pub mod ScopeView
 pub mod TaskView

@@ -17,7 +17,6 @@ use crate::dues::{call_in, has_core, is_arrive, is_end, is_finish, is_loop, is_s
 use crate::opening::open_memory;
 use crate::plain::StepError;
 use crate::scopes::{RangeRow, ScopeRow, begin};
-use crate::table::Table;
 use crate::tasks::{Mode, Row, Tasks, no_reply};
 use gr_lang::accepted::Accepted;
 use gr_lang::action::{Action, Entry, How, Op, Reply, TaskId, TrapKind};
@@ -25,6 +24,7 @@ use gr_lang::lists::Words;
 use gr_lang::syntax::Text;
 use gr_memory::memory::Memory;
 use gr_memory::parts::Keys;
+use gr_steps::table::Table;
 use std::alloc::{AllocError, Global};
 use std::marker::Model;
 

@@ -9,10 +9,10 @@ ghost use Rattle.gr_lang.specs.Objects.{nothing};
 ghost use Rattle.gr_plain.specs.StackView.{top_of, under_top};
 ghost use Rattle.gr_plain.specs.TaskView.{mode_of};
 
-use crate::running::Running;
-use crate::table::Table;
 use crate::word_stack::WordStack;
 use gr_lang::action::{Action, Reply, TaskId};
+use gr_steps::running::Running;
+use gr_steps::table::Table;
 use std::alloc::{AllocError, Global};
 use std::collections::BTreeMap;
 use std::marker::Model;
