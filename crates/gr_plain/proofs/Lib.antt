@@ -1,10 +1,10 @@
-pub mod Hits
-pub mod Ranges
-pub mod Reaches
-pub mod Known
-pub mod Stacks
-pub mod Unders
 pub mod Begins
 pub mod Histories
 pub mod Zeros
-pub mod Looks
+pub mod Tallies
+pub mod Effects
+pub mod Changes
+pub mod Numbers
+pub mod Kept
+pub mod Sizes
+pub mod WorkedRows

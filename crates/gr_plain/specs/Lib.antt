@@ -1,11 +1,10 @@
-pub mod LocalView
-pub mod Ranges
-pub mod TableView
-pub mod RunningView
-pub mod Turns
+pub mod Sizes
 pub mod StackView
 pub mod ScopeView
 pub mod TaskView
 pub mod Held
+pub mod Counts
+pub mod MachineView
 pub mod PlainView
 pub mod Laws
+pub mod Worked

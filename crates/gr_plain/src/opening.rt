@@ -1,132 +1,19 @@
-//! What a run opens with: the tables of a program, and its objects with their first words.
-ghost use Rattle.std.specs.Prelude.{◌≡◌, ◌++◌, All, IfOk, IsTrue, OnOk, map, replicate};
-ghost use Rattle.gr_lang.specs.Next.{lets, lets_of};
-ghost use Rattle.gr_lang.specs.Openings.{array_words, heap_words, input_of, object_names, objects_from, opening, padded, tasks_of, texts};
-ghost use Rattle.gr_plain.specs.TableView.{IsHeap, knowns_of, reaches_of, row_of};
-ghost use Rattle.gr_memory.specs.ThingView.{LiesIn, things_of};
+//! What a run opens with: the objects of a program with their first words.
+ghost use Rattle.std.specs.Prelude.{◌≡◌, ◌<◌, ◌≤◌, ◌^◌, ◌++◌, IfOk, OnOk, map, replicate};
+ghost use Rattle.gr_lang.specs.Openings.{array_words, heap_words, input_of, objects_from, opening, padded};
+ghost use Rattle.gr_plain.specs.Sizes.{arrays_in};
+ghost use Rattle.gr_steps.specs.TableView.{IsHeap};
+ghost use Rattle.gr_memory.specs.ThingView.{things_of};
 
+use gr_lang::syntax::{Item, Number, Program, Text};
 use gr_memory::memory::Memory;
 use gr_memory::things::Thing;
-use crate::table::{HeapRange, TaskRow};
-use gr_lang::syntax::{Item, Names, Number, Program, Stmt, Text};
+use gr_steps::table::HeapRange;
 use std::alloc::{AllocError, Global};
-
-/// The names of the objects other than the heap.
-pub fn object_names_of<'a>(alloc: Global, items: &'a [Item]) -> Result<Vec<&'a Text>, AllocError>
-    ensures { IfOk result (λ names. map (λ n. n.now) names.items ≡ object_names items.now) }
-{
-    let mut names = Vec::new(alloc);
-    for item in items {
-        match item {
-            Item::Array { name, .. } => names.push(&name.text)?,
-            Item::Set { name } => names.push(&name.text)?,
-            Item::Map { name } => names.push(&name.text)?,
-            Item::Vector { name } => names.push(&name.text)?,
-            _ => (),
-        }
-    }
-    Ok(names)
-}
-
-/// The number of places of each object; only arrays have places.
-pub fn reaches_in(alloc: Global, items: &[Item]) -> Result<Vec<u64>, AllocError>
-    ensures { IfOk result (λ reaches. reaches.items ≡ reaches_of items.now) }
-{
-    let mut reaches = Vec::new(alloc);
-    for item in items {
-        match item {
-            Item::Array { words, .. } => reaches.push(words.value)?,
-            Item::Set { .. } => reaches.push(0)?,
-            Item::Map { .. } => reaches.push(0)?,
-            Item::Vector { .. } => reaches.push(0)?,
-            _ => (),
-        }
-    }
-    Ok(reaches)
-}
-
-fn add_names<'a>(names: &mut Vec<&'a Text>, more: &'a Names) -> Result<(), AllocError>
-    ensures { OnOk result (map (λ n. n.now) names.new.items ≡ map (λ n. n.now) names.old.items ++ texts more.now) }
-{
-    for name in more.as_slice() {
-        names.push(&name.text)?;
-    }
-    Ok(())
-}
-
-/// Adds the names that a statement gives with `let`, in the order of the text.
-#[cycle(lets)]
-fn add_lets<'a>(names: &mut Vec<&'a Text>, stmt: &'a Stmt) -> Result<(), AllocError>
-    ensures { OnOk result (map (λ n. n.now) names.new.items ≡ map (λ n. n.now) names.old.items ++ lets stmt.now) }
-{
-    match stmt {
-        Stmt::Set1 { fresh, targets, .. } => {
-            if *fresh {
-                add_names(names, targets)?;
-            }
-            Ok(())
-        }
-        Stmt::If { yes, no, .. } => {
-            add_block_lets(names, yes.as_slice())?;
-            add_block_lets(names, no.as_slice())
-        }
-        Stmt::While { body, .. } => add_block_lets(names, body.as_slice()),
-        Stmt::Finish { body } => add_block_lets(names, body.as_slice()),
-        Stmt::Do { .. } => Ok(()),
-        Stmt::Print { .. } => Ok(()),
-        Stmt::Spawn { .. } => Ok(()),
-        Stmt::Forall { .. } => Ok(()),
-    }
-}
-
-/// Adds the names that a block gives with `let`, in the order of the text.
-#[cycle(lets)]
-fn add_block_lets<'a>(names: &mut Vec<&'a Text>, block: &'a [Stmt]) -> Result<(), AllocError>
-    ensures { OnOk result (map (λ n. n.now) names.new.items ≡ map (λ n. n.now) names.old.items ++ lets_of block.now) }
-{
-    for stmt in block {
-        add_lets(names, stmt)?;
-    }
-    Ok(())
-}
-
-/// The names of a task's locals: its parameters, then what its body gives.
-fn locals_of<'a>(
-    alloc: Global,
-    params: &'a Names,
-    body: &'a [Stmt],
-) -> Result<Vec<&'a Text>, AllocError>
-    ensures { IfOk result (λ names. map (λ n. n.now) names.items ≡ texts params.now ++ lets_of body.now) }
-{
-    let mut names = Vec::new(alloc);
-    add_names(&mut names, params)?;
-    add_block_lets(&mut names, body)?;
-    Ok(names)
-}
-
-/// The tasks of the text.
-pub fn task_rows<'a>(alloc: Global, items: &'a [Item]) -> Result<Vec<TaskRow<'a>>, AllocError>
-    ensures { IfOk result (λ rows. map row_of rows.items ≡ knowns_of (tasks_of items.now)) }
-{
-    let mut rows = Vec::new(alloc);
-    for item in items {
-        match item {
-            Item::Task { name, params, body } => {
-                let locals = locals_of(alloc, params, body.as_slice())?;
-                rows.push(TaskRow {
-                    name: &name.text,
-                    locals,
-                    body,
-                })?;
-            }
-            _ => (),
-        }
-    }
-    Ok(rows)
-}
 
 /// The objects with which a run opens: arrays lie one after another, and all else is empty.
 fn things_in(alloc: Global, items: &[Item]) -> Result<Vec<Thing>, AllocError>
+    requires { arrays_in items.now < 2 ^ 64 }
     ensures { IfOk result (λ things. things_of things.items ≡ objects_from 0 items.now) }
 {
     let mut things = Vec::new(alloc);
@@ -135,10 +22,7 @@ fn things_in(alloc: Global, items: &[Item]) -> Result<Vec<Thing>, AllocError>
         match item {
             Item::Array { words, .. } => {
                 things.push(Thing::array(from, words.value))?;
-                match from.checked_add(words.value) {
-                    None => return Err(AllocError),
-                    Some(end) => from = end,
-                }
+                from += words.value;
             }
             Item::Set { .. } => things.push(Thing::set(alloc))?,
             Item::Map { .. } => things.push(Thing::map(alloc))?,
@@ -225,52 +109,20 @@ fn heap_words_of(items: &[Item]) -> u64
     0
 }
 
-/// Whether it is no array, or one that lies in so many words.
-fn lies_in(thing: &Thing, count: usize) -> bool
-    ensures { IsTrue result → LiesIn count thing.now }
-{
-    match thing {
-        Thing::Array { from, count: words } => match from.checked_add(*words) {
-            None => false,
-            Some(end) => end <= count as u64,
-        },
-        _ => true,
-    }
-}
-
-/// Whether all arrays lie in so many words.
-fn lie_in(things: &[Thing], count: usize) -> bool
-    ensures { IsTrue result → All (LiesIn count) things.now }
-{
-    for thing in things {
-        let is_inside = lies_in(thing, count);
-        if !is_inside {
-            return false;
-        }
-    }
-    true
-}
-
-/// The memory with which a run opens, and where the heap lies in it. An accepted program has at most 2^24
-/// words, and its arrays lie in them.
+/// The memory with which a run opens, and where the heap lies in it.
 #[tactic(auto, unfolding(gr_lang::specs::Openings::opening))]
 pub fn open_memory(alloc: Global, program: &Program) -> Result<(Memory, HeapRange), AllocError>
+    requires { heap_words program.now.items ≤ 2 ^ 24 }
     ensures { IfOk result (λ opened. (opened.0 ≡ opening program.now) × IsHeap opened.1 program.now) }
 {
     let items = program.items.as_slice();
-    let things = things_in(alloc, items)?;
     let mut words = array_words_of(alloc, items)?;
     let heap = HeapRange {
         from: words.len() as u64,
         count: heap_words_of(items),
     };
+    let things = things_in(alloc, items)?;
     push_zeros(&mut words, heap.count)?;
-    let fit = lie_in(things.as_slice(), words.len());
-    if !fit {
-        return Err(AllocError);
-    }
-    Ok((
-        Memory::new(alloc, words, things, heap.from, heap.count),
-        heap,
-    ))
+    let memory = Memory::new(alloc, words, things, heap.from, heap.count)?;
+    Ok((memory, heap))
 }

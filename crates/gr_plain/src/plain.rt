@@ -1,32 +1,17 @@
 //! The plain memory with its tasks, as a machine that takes the entries of a history one by one.
-ghost use Rattle.std.specs.Prelude.{◌≡◌, ◌∷◌, ◌++◌, [], IfOk, IfSome, None, OnErr, OnOk, Some, length};
-ghost use Rattle.std.specs.FinMap as fin;
-ghost use Rattle.std.specs.Option.{option_map};
-ghost use Rattle.gr_lang.specs.Objects.{call, nothing};
-ghost use Rattle.gr_lang.specs.States.{at_loop, child as child_task, left as work_left, opening_state};
-ghost use Rattle.gr_lang.specs.Steps.{goes_on as gone_on, is_new as is_new_id, set_task};
-ghost use Rattle.gr_plain.specs.Held.{begin_args, due_begin, due_call, due_end, due_finish, due_loop, due_pass, due_spawn, due_trap, entry_due, loop_scope, stepped, with_state};
-ghost use Rattle.gr_plain.specs.ScopeView.{begun_at, range_of};
-ghost use Rattle.gr_plain.specs.StackView.{under_top};
-ghost use Rattle.gr_plain.specs.TaskView.{mode_of};
+ghost use Rattle.std.specs.Prelude.{◌≡◌, IfOk, None, OnOk, Some};
+ghost use Rattle.gr_lang.specs.States.{opening_state};
+ghost use Rattle.gr_plain.specs.Counts.{IsCounted, is_work_in as is_work_in_scope};
+ghost use Rattle.gr_plain.specs.Held.{entry_due, is_blocked as is_blocked_by, stepped};
 
-use crate::dues::{call_in, has_core, is_arrive, is_end, is_finish, is_loop, is_spawn, is_trap};
-use gr_memory::memory::Memory;
-use crate::opening::open_memory;
-use crate::scopes::{RangeRow, ScopeRow, are_ranges_left, begin};
-use crate::table::Table;
-use crate::tasks::{Mode, Row, Tasks, no_reply};
-use crate::word_stack::WordStack;
+use crate::counts::{make, number_in};
+use crate::machine::Machine;
 use gr_lang::accepted::Accepted;
-use gr_lang::action::{Action, Entry, How, Op, Reply, TaskId, TrapKind};
-use gr_lang::lists::Words;
-use gr_lang::syntax::Text;
+use gr_lang::action::{Entry, TaskId};
+use gr_valid::laws::{states_stay_valid, work_is_direct};
 use std::alloc::{AllocError, Global};
 use std::marker::Model;
 use thiserror::Error;
-
-/// The first task.
-const MAIN: TaskId = TaskId { core: 0, number: 0 };
 
 /// Why an entry wasn't taken.
 #[derive(Debug, Drop, Error)]
@@ -51,16 +36,16 @@ impl From<AllocError> for StepError {
     }
 }
 
-/// One plain memory with the tasks and scopes of a program, which takes the entries of a history.
+/// One plain memory with the tasks and scopes of a program, which takes the entries of a history. Each
+/// entry costs at most a logarithm of the tasks, scopes and words that are there, beside the pure steps of
+/// its task.
 #[derive(Drop)]
 pub struct Plain<'a> {
-    table: Table<'a>,
-    cores: u64,
-    steps: u64,
-    memory: Memory,
-    tasks: Tasks<'a>,
-    scopes: Vec<ScopeRow>,
-    passed: bool,
+    machine: Machine<'a>,
+    /// For each scope, the number of its tasks that haven't ended.
+    unended: Vec<u64>,
+    /// Whether a step broke off for want of memory, so that the numbers may be wrong.
+    is_broken: bool,
 }
 
 impl<'a> Model for Plain<'a> {
@@ -76,9 +61,57 @@ impl<'a> Model for Plain<'a> {
 
     ghost coded = { Prim.hlevel (codes, stmt.the_row.coded, set.code {R = nat_cmp} coded_ℕ, fin.code {R = nat_cmp} coded_ℕ coded_ℕ, fin.code {X = Task} {R = id_cmp} (Prim.hlevel codes) (Prim.hlevel (codes, stmt.the_row.coded))) };
 
-    ghost use Rattle.gr_plain.specs.PlainView.{held_of};
+    ghost use Rattle.gr_plain.specs.PlainView.{IsKept};
 
-    ghost view = { held_of };
+    ghost view = { λ p. p.machine };
+
+    ghost invariant = { IsKept };
+}
+
+/// Whether a task stands in the scope that hasn't ended, or an index of its range hasn't begun.
+fn is_work_in(machine: &Machine, unended: &[u64], scope: u64) -> bool
+    ensures { result ≡ is_work_in_scope unended.now machine.now.state scope }
+{
+    let has_tasks = number_in(unended, scope) > 0;
+    has_tasks || machine.is_range_left(scope)
+}
+
+/// Whether work is left under the scope that the entry passes.
+fn is_blocked(machine: &Machine, unended: &[u64], entry: &Entry) -> bool
+    requires { IsCounted machine.now.program machine.now.state unended.now }
+    ensures { result ≡ is_blocked_by machine.now.state entry.now }
+{
+    work_is_direct();
+    match entry {
+        Entry::Pass { task } => match machine.passes(*task) {
+            None => false,
+            Some(scope) => is_work_in(machine, unended, scope),
+        },
+        Entry::Over => is_work_in(machine, unended, 0),
+        _ => false,
+    }
+}
+
+/// Takes an entry, and keeps the numbers. Where it isn't legal, nothing has changed.
+fn take(
+    machine: &mut Machine,
+    unended: &mut Vec<u64>,
+    alloc: Global,
+    entry: &Entry,
+) -> Result<(), StepError>
+    requires { IsCounted machine.old.program machine.old.state unended.old.items }
+    ensures ok { OnOk result (stepped machine.old entry.now ≡ Some machine.new) }
+    ensures counted { OnOk result (IsCounted machine.new.program machine.new.state unended.new.items) }
+    ensures not_legal { result ≡ Err StepError.NotLegal → (stepped machine.old entry.now ≡ None) × (machine.new ≡ machine.old) × (unended.new.items ≡ unended.old.items) }
+{
+    let is_left = is_blocked(machine, unended, entry);
+    let change = machine.change(entry);
+    machine.step(alloc, entry, is_left)?;
+    states_stay_valid();
+    // Each number is at most the number of tasks, which fits 64 bits.
+    let _ = machine.task_count();
+    make(unended, change)?;
+    Ok(())
 }
 
 impl<'a> Plain<'a> {
@@ -92,457 +125,38 @@ impl<'a> Plain<'a> {
     ) -> Result<Plain<'a>, AllocError>
         ensures { IfOk result (λ plain. plain ≡ record { program = program.now; cores = cores; steps = steps; state = opening_state program.now steps }) }
     {
-        let text = program.program();
-        let (memory, heap) = open_memory(alloc, text)?;
-        let table = Table::new(alloc, text, heap)?;
-        let main = Text::new("main".to_string(alloc)?);
-        let target = table.target_of(&main);
-        let row = Row::start(alloc, &table, steps, 0, target, &[])?;
-        let mut tasks = Tasks::new(alloc);
-        tasks.put(MAIN, row)?;
-        let mut scopes = Vec::new(alloc);
-        scopes.push(ScopeRow {
-            owner: None,
-            parent: 0,
-            range: None,
-        })?;
+        let machine = Machine::start(alloc, program, cores, steps)?;
+        let mut unended = Vec::new(alloc);
+        unended.push(1)?;
+        states_stay_valid();
         Ok(Plain {
-            table,
-            cores,
-            steps,
-            memory,
-            tasks,
-            scopes,
-            passed: false,
+            machine,
+            unended,
+            is_broken: false,
         })
     }
 
-    fn goes_on(&mut self, alloc: Global, id: TaskId, reply: Reply) -> Result<(), AllocError>
-        ensures { OnOk result (IfSome (fin.get self.old.state.tasks id) (λ t. self.new ≡ with_state self.old (set_task self.old.state id (gone_on self.old.program self.old.steps t reply)))) }
-    {
-        self.tasks
-            .goes_on(alloc, &self.table, self.steps, id, reply)
-    }
-
-    fn enters(&mut self, alloc: Global, id: TaskId, scope: u64) -> Result<(), AllocError>
-        ensures { OnOk result (IfSome (fin.get self.old.state.tasks id) (λ t. self.new ≡ with_state self.old (set_task self.old.state id (record (gone_on self.old.program self.old.steps t nothing) { opened = scope ∷ t.opened })))) }
-    {
-        self.tasks.enters(alloc, &self.table, self.steps, id, scope)
-    }
-
-    fn leaves(&mut self, alloc: Global, id: TaskId) -> Result<(), AllocError>
-        ensures { OnOk result (IfSome (fin.get self.old.state.tasks id) (λ t. self.new ≡ with_state self.old (set_task self.old.state id (record (gone_on self.old.program self.old.steps t nothing) { opened = under_top t.opened })))) }
-    {
-        self.tasks.leaves(alloc, &self.table, self.steps, id)
-    }
-
-    fn waits(&mut self, id: TaskId, scope: u64) -> Result<(), AllocError>
-        ensures { OnOk result (IfSome (fin.get self.old.state.tasks id) (λ t. self.new ≡ with_state self.old (set_task self.old.state id (record t { mode = at_loop; opened = scope ∷ t.opened })))) }
-    {
-        self.tasks.waits(id, scope)
-    }
-
-    fn set_mode(&mut self, id: TaskId, mode: Mode) -> Result<(), AllocError>
-        ensures { OnOk result (IfSome (fin.get self.old.state.tasks id) (λ t. self.new ≡ with_state self.old (set_task self.old.state id (record t { mode = mode_of mode })))) }
-    {
-        self.tasks.set_mode(id, mode)
-    }
-
-    fn put(&mut self, id: TaskId, row: Row<'a>) -> Result<(), AllocError>
-        ensures { OnOk result (self.new ≡ with_state self.old (set_task self.old.state id row.entry)) }
-    {
-        self.tasks.put(id, row)
-    }
-
-    fn open_scope(
-        &mut self,
-        owner: TaskId,
-        parent: u64,
-        range: Option<RangeRow>,
-    ) -> Result<(), AllocError>
-        ensures { OnOk result (self.new ≡ with_state self.old (record self.old.state { scopes = self.old.state.scopes ++ record { owner = Some owner; parent = parent; range = option_map range_of range } ∷ [] })) }
-    {
-        self.scopes.push(ScopeRow {
-            owner: Some(owner),
-            parent,
-            range,
-        })?;
-        Ok(())
-    }
-
-    fn begin_index(&mut self, scope: u64, index: u64) -> Result<(), AllocError>
-        ensures { OnOk result (self.new ≡ with_state self.old (record self.old.state { scopes = begun_at self.old.state.scopes scope index })) }
-    {
-        begin(&mut self.scopes, scope, index)
-    }
-
-    fn apply(&mut self, op: Op) -> Result<(), AllocError>
-        ensures { OnOk result (self.new ≡ with_state self.old (record self.old.state { objects = (call op self.old.state.objects).0 })) }
-    {
-        self.memory.apply(op)
-    }
-
-    fn reply(&self, op: Op) -> Reply
-        ensures { result ≡ (call op self.now.state.objects).1 }
-    {
-        self.memory.reply(op)
-    }
-
-    fn scope_count(&self) -> u64
-        ensures { result ≡ length self.now.state.scopes }
-    {
-        self.scopes.len() as u64
-    }
-
-    fn is_new(&self, id: TaskId) -> bool
-        ensures { result ≡ is_new_id self.now.state id }
-    {
-        self.tasks.get(id).is_none()
-    }
-
-    fn child(
-        &self,
-        alloc: Global,
-        scope: u64,
-        target: u64,
-        args: &Words,
-    ) -> Result<Row<'a>, AllocError>
-        ensures { IfOk result (λ row. row ≡ child_task self.now.program self.now.steps scope target args.now) }
-    {
-        Row::start(
-            alloc,
-            &self.table,
-            self.steps,
-            scope,
-            target,
-            args.as_slice(),
-        )
-    }
-
-    /// Whether work is unfinished in scope `s` or under it.
-    #[tactic(auto, using(crate::proofs::Unders::left_is))]
-    fn left(&self, s: u64) -> bool
-        ensures { result ≡ work_left self.now.state s }
-    {
-        let scopes = self.scopes.as_slice();
-        let is_task_left = self.tasks.any_left(scopes, s);
-        let is_range_left = are_ranges_left(scopes, s);
-        is_task_left || is_range_left
-    }
-
-    fn due(&self, id: TaskId) -> Option<Op>
-        ensures { result ≡ due_call self.now.state id }
-    {
-        let row = self.tasks.get(id)?;
-        if row.is_going() {
-            call_in(row.action())
-        } else {
-            None
-        }
-    }
-
-    fn spawns(&self, id: TaskId, how: How, target: u64, args: &Words) -> Option<u64>
-        ensures { result ≡ due_spawn self.now.state id how target args.now }
-    {
-        let row = self.tasks.get(id)?;
-        let is_due = is_spawn(row.action(), how, target, args);
-        if row.is_going() && is_due {
-            Some(row.innermost())
-        } else {
-            None
-        }
-    }
-
-    fn finishes(&self, id: TaskId) -> Option<u64>
-        ensures { result ≡ due_finish self.now.state id }
-    {
-        let row = self.tasks.get(id)?;
-        let is_due = is_finish(row.action());
-        if row.is_going() && is_due {
-            Some(row.innermost())
-        } else {
-            None
-        }
-    }
-
-    fn loops(
-        &self,
-        id: TaskId,
-        lo: u64,
-        hi: u64,
-        grain: u64,
-        target: u64,
-        args: &Words,
-    ) -> Option<u64>
-        ensures { result ≡ due_loop self.now.state id lo hi grain target args.now }
-    {
-        let row = self.tasks.get(id)?;
-        let is_due = is_loop(row.action(), lo, hi, grain, target, args);
-        if row.is_going() && is_due {
-            Some(row.innermost())
-        } else {
-            None
-        }
-    }
-
-    fn loop_scope(&self, owner: TaskId) -> Option<u64>
-        ensures { result ≡ loop_scope self.now.state owner }
-    {
-        let row = self.tasks.get(owner)?;
-        if row.is_at_loop() { row.opened() } else { None }
-    }
-
-    fn begins(&self, scope: u64, index: u64) -> Option<u64>
-        ensures { result ≡ due_begin self.now.state scope index }
-    {
-        let row = self.scopes.get(scope as usize)?;
-        row.begins(index)
-    }
-
-    fn begin_args(&self, alloc: Global, scope: u64, index: u64) -> Result<Words, AllocError>
-        ensures { IfOk result (λ args. args ≡ begin_args self.now.state scope index) }
-    {
-        match self.scopes.get(scope as usize) {
-            None => Ok(Words::new(alloc)),
-            Some(row) => row.args(alloc, index),
-        }
-    }
-
-    fn passes(&self, id: TaskId) -> Option<u64>
-        ensures { result ≡ due_pass self.now.state id }
-    {
-        let row = self.tasks.get(id)?;
-        let has_arrived = is_arrive(row.action());
-        if row.is_at_loop() || (row.is_going() && has_arrived) {
-            row.opened()
-        } else {
-            None
-        }
-    }
-
-    fn ends(&self, id: TaskId) -> bool
-        ensures { result ≡ due_end self.now.state id }
-    {
-        match self.tasks.get(id) {
-            None => false,
-            Some(row) => row.is_going() && is_end(row.action()),
-        }
-    }
-
-    fn traps(&self, id: TaskId, kind: TrapKind) -> bool
-        ensures { result ≡ due_trap self.now.cores self.now.state id kind }
-    {
-        match self.tasks.get(id) {
-            None => false,
-            Some(row) => row.is_going() && is_trap(self.cores, row.action(), kind),
-        }
-    }
-
-    fn call(&mut self, alloc: Global, id: TaskId, op: Op, reply: Reply) -> Result<(), StepError>
-        ensures ok { OnOk result (stepped self.old (Entry.Call id op reply) ≡ Some self.new) }
-        ensures not_legal { result ≡ Err StepError.NotLegal → (stepped self.old (Entry.Call id op reply) ≡ None) × (self.new ≡ self.old) }
-    {
-        let Some(due) = self.due(id) else {
-            return Err(StepError::NotLegal);
-        };
-        let is_due = due.is(&op);
-        if !is_due {
-            return Err(StepError::NotLegal);
-        }
-        let is_reply = reply.is(&self.reply(op));
-        if !is_reply {
-            return Err(StepError::NotLegal);
-        }
-        self.apply(op)?;
-        self.goes_on(alloc, id, reply)?;
-        Ok(())
-    }
-
-    fn spawn(
-        &mut self,
-        alloc: Global,
-        id: TaskId,
-        how: How,
-        target: u64,
-        args: &Words,
-        kid: TaskId,
-    ) -> Result<(), StepError>
-        ensures ok { OnOk result (stepped self.old (Entry.Spawn id how target args.now kid) ≡ Some self.new) }
-        ensures not_legal { result ≡ Err StepError.NotLegal → (stepped self.old (Entry.Spawn id how target args.now kid) ≡ None) × (self.new ≡ self.old) }
-    {
-        let Some(scope) = self.spawns(id, how, target, args) else {
-            return Err(StepError::NotLegal);
-        };
-        let is_there = has_core(self.cores, how);
-        if !is_there {
-            return Err(StepError::NotLegal);
-        }
-        let is_new = self.is_new(kid);
-        if !is_new {
-            return Err(StepError::NotLegal);
-        }
-        let child = self.child(alloc, scope, target, args)?;
-        self.goes_on(alloc, id, no_reply())?;
-        self.put(kid, child)?;
-        Ok(())
-    }
-
-    fn finish(&mut self, alloc: Global, id: TaskId) -> Result<(), StepError>
-        ensures ok { OnOk result (stepped self.old (Entry.Finish id) ≡ Some self.new) }
-        ensures not_legal { result ≡ Err StepError.NotLegal → (stepped self.old (Entry.Finish id) ≡ None) × (self.new ≡ self.old) }
-    {
-        let Some(parent) = self.finishes(id) else {
-            return Err(StepError::NotLegal);
-        };
-        let scope = self.scope_count();
-        self.enters(alloc, id, scope)?;
-        self.open_scope(id, parent, None)?;
-        Ok(())
-    }
-
-    fn open_loop(
-        &mut self,
-        alloc: Global,
-        id: TaskId,
-        lo: u64,
-        hi: u64,
-        grain: u64,
-        target: u64,
-        args: &Words,
-    ) -> Result<(), StepError>
-        ensures ok { OnOk result (stepped self.old (Entry.Loop id lo hi grain target args.now) ≡ Some self.new) }
-        ensures not_legal { result ≡ Err StepError.NotLegal → (stepped self.old (Entry.Loop id lo hi grain target args.now) ≡ None) × (self.new ≡ self.old) }
-    {
-        let Some(parent) = self.loops(id, lo, hi, grain, target, args) else {
-            return Err(StepError::NotLegal);
-        };
-        let range = RangeRow {
-            lo,
-            hi,
-            target,
-            args: args.copy()?,
-            begun: WordStack::new(alloc),
-        };
-        let scope = self.scope_count();
-        self.waits(id, scope)?;
-        self.open_scope(id, parent, Some(range))?;
-        Ok(())
-    }
-
-    fn begin(
-        &mut self,
-        alloc: Global,
-        owner: TaskId,
-        index: u64,
-        kid: TaskId,
-    ) -> Result<(), StepError>
-        ensures ok { OnOk result (stepped self.old (Entry.Begin owner index kid) ≡ Some self.new) }
-        ensures not_legal { result ≡ Err StepError.NotLegal → (stepped self.old (Entry.Begin owner index kid) ≡ None) × (self.new ≡ self.old) }
-    {
-        let Some(scope) = self.loop_scope(owner) else {
-            return Err(StepError::NotLegal);
-        };
-        let Some(target) = self.begins(scope, index) else {
-            return Err(StepError::NotLegal);
-        };
-        let is_new = self.is_new(kid);
-        if !is_new {
-            return Err(StepError::NotLegal);
-        }
-        let args = self.begin_args(alloc, scope, index)?;
-        let child = self.child(alloc, scope, target, &args)?;
-        self.put(kid, child)?;
-        self.begin_index(scope, index)?;
-        Ok(())
-    }
-
-    fn pass(&mut self, alloc: Global, id: TaskId) -> Result<(), StepError>
-        ensures ok { OnOk result (stepped self.old (Entry.Pass id) ≡ Some self.new) }
-        ensures not_legal { result ≡ Err StepError.NotLegal → (stepped self.old (Entry.Pass id) ≡ None) × (self.new ≡ self.old) }
-    {
-        let Some(scope) = self.passes(id) else {
-            return Err(StepError::NotLegal);
-        };
-        let is_left = self.left(scope);
-        if is_left {
-            return Err(StepError::NotLegal);
-        }
-        self.leaves(alloc, id)?;
-        Ok(())
-    }
-
-    fn end(&mut self, id: TaskId) -> Result<(), StepError>
-        ensures ok { OnOk result (stepped self.old (Entry.End id) ≡ Some self.new) }
-        ensures not_legal { result ≡ Err StepError.NotLegal → (stepped self.old (Entry.End id) ≡ None) × (self.new ≡ self.old) }
-    {
-        let is_due = self.ends(id);
-        if !is_due {
-            return Err(StepError::NotLegal);
-        }
-        self.set_mode(id, Mode::Ended)?;
-        Ok(())
-    }
-
-    fn trap(&mut self, id: TaskId, kind: TrapKind) -> Result<(), StepError>
-        ensures ok { OnOk result (stepped self.old (Entry.Trap id kind) ≡ Some self.new) }
-        ensures not_legal { result ≡ Err StepError.NotLegal → (stepped self.old (Entry.Trap id kind) ≡ None) × (self.new ≡ self.old) }
-    {
-        let is_due = self.traps(id, kind);
-        if !is_due {
-            return Err(StepError::NotLegal);
-        }
-        self.set_mode(id, Mode::Trapped)?;
-        Ok(())
-    }
-
-    fn over(&mut self) -> Result<(), StepError>
-        ensures ok { OnOk result (stepped self.old Entry.Over ≡ Some self.new) }
-        ensures not_legal { OnErr result ((stepped self.old Entry.Over ≡ None) × (self.new ≡ self.old)) }
-    {
-        if self.passed {
-            return Err(StepError::NotLegal);
-        }
-        let is_left = self.left(0);
-        if is_left {
-            return Err(StepError::NotLegal);
-        }
-        self.passed = true;
-        Ok(())
-    }
-
     /// Takes the next entry of a history. `NotLegal` where the entry is no step, and then nothing has
-    /// changed; after `OutOfMemory` the state is of no more use.
+    /// changed. After `OutOfMemory` the state is of no more use, and each further step answers it too.
     pub fn step(&mut self, alloc: Global, entry: &Entry) -> Result<(), StepError>
         ensures ok { OnOk result (stepped self.old entry.now ≡ Some self.new) }
         ensures not_legal { result ≡ Err StepError.NotLegal → (stepped self.old entry.now ≡ None) × (self.new ≡ self.old) }
     {
-        match entry {
-            Entry::Call { task, op, reply } => self.call(alloc, *task, *op, *reply),
-            Entry::Spawn {
-                task,
-                how,
-                target,
-                args,
-                child,
-            } => self.spawn(alloc, *task, *how, *target, args, *child),
-            Entry::Finish { task } => self.finish(alloc, *task),
-            Entry::Loop {
-                task,
-                lo,
-                hi,
-                grain,
-                target,
-                args,
-            } => self.open_loop(alloc, *task, *lo, *hi, *grain, *target, args),
-            Entry::Begin {
-                owner,
-                index,
-                child,
-            } => self.begin(alloc, *owner, *index, *child),
-            Entry::Pass { task } => self.pass(alloc, *task),
-            Entry::End { task } => self.end(*task),
-            Entry::Trap { task, kind } => self.trap(*task, *kind),
-            Entry::Over => self.over(),
+        if self.is_broken {
+            return Err(StepError::OutOfMemory);
+        }
+        self.is_broken = true;
+        let taken = take(&mut self.machine, &mut self.unended, alloc, entry);
+        match taken {
+            Ok(()) => {
+                self.is_broken = false;
+                Ok(())
+            }
+            Err(StepError::NotLegal) => {
+                self.is_broken = false;
+                Err(StepError::NotLegal)
+            }
+            Err(StepError::OutOfMemory) => Err(StepError::OutOfMemory),
         }
     }
 
@@ -551,28 +165,13 @@ impl<'a> Plain<'a> {
     pub fn next_call(&self, task: TaskId) -> Result<Option<Entry>, AllocError>
         ensures { IfOk result (λ entry. entry ≡ entry_due self.now.state task) }
     {
-        let Some(row) = self.tasks.get(task) else {
-            return Ok(None);
-        };
-        if !row.is_going() {
-            return Ok(None);
-        }
-        match row.action() {
-            Action::Call { op } => Ok(Some(Entry::Call {
-                task,
-                op: *op,
-                reply: self.memory.reply(*op),
-            })),
-            Action::End => Ok(Some(Entry::End { task })),
-            Action::Trap { kind } => Ok(Some(Entry::Trap { task, kind: *kind })),
-            _ => Ok(None),
-        }
+        self.machine.next_call(task)
     }
 
     /// Whether the root scope is passed, as it is exactly after a complete history.
     pub fn complete(&self) -> bool
         ensures { result ≡ self.now.state.passed }
     {
-        self.passed
+        self.machine.complete()
     }
 }

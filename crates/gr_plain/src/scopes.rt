@@ -1,11 +1,11 @@
 //! The scopes of a run: their owners and parents, and the ranges of loops.
 ghost use Rattle.std.specs.Prelude.{◌≡◌, ◌++◌, IfOk, OnOk};
-ghost use Rattle.gr_lang.specs.States.{is_under as under, range_left};
-ghost use Rattle.gr_plain.specs.ScopeView.{args_of, begin_scope, begins_in, begun_at, parent_of, ranges_in};
+ghost use Rattle.gr_lang.specs.States.{range_left};
+ghost use Rattle.gr_plain.specs.ScopeView.{args_of, begin_scope, begins_in, begun_at};
 
-use crate::word_stack::WordStack;
 use gr_lang::action::TaskId;
 use gr_lang::lists::Words;
+use gr_memory::parts::Keys;
 use std::alloc::{AllocError, Global};
 use std::marker::Model;
 
@@ -17,7 +17,7 @@ pub struct RangeRow {
     pub hi: u64,
     pub target: u64,
     pub args: Words,
-    pub begun: WordStack,
+    pub begun: Keys,
 }
 
 /// A scope: its owner and parent, and its range where it is a loop. The root has no owner.
@@ -31,7 +31,13 @@ pub struct ScopeRow {
 impl Model for ScopeRow {
     ghost use Rattle.gr_lang.specs.States.{Scope};
 
+    ghost use Rattle.std.specs.Coded.{codes, coded_ℕ};
+    ghost use Rattle.std.specs.FinSet as set;
+    ghost use Rattle.std.specs.Ordering.{nat_cmp};
+
     ghost Value = { Scope };
+
+    ghost coded = { Prim.hlevel (codes, set.code {R = nat_cmp} coded_ℕ) };
 
     ghost use Rattle.gr_plain.specs.ScopeView.{scope_of};
 
@@ -39,16 +45,6 @@ impl Model for ScopeRow {
 }
 
 impl ScopeRow {
-    /// Its parent, where it has an owner.
-    pub fn parent(&self) -> Option<u64>
-        ensures { result ≡ parent_of self.now }
-    {
-        if self.owner.is_none() {
-            return None;
-        }
-        Some(self.parent)
-    }
-
     /// Whether an index of its range hasn't begun.
     pub fn is_range_left(&self) -> bool
         ensures { result ≡ range_left self.now.range }
@@ -94,7 +90,7 @@ impl ScopeRow {
     {
         match &mut self.range {
             None => Ok(()),
-            Some(range) => range.begun.push(index),
+            Some(range) => range.begun.insert(index),
         }
     }
 }
@@ -106,39 +102,6 @@ fn push_all(words: &mut Words, more: &[u64]) -> Result<(), AllocError>
         words.push(*word)?;
     }
     Ok(())
-}
-
-/// Whether scope `r` is scope `s` or stands under it, looking at most `depth` scopes up.
-#[tactic(auto, using(crate::proofs::Unders::unders))]
-pub fn is_under(depth: usize, scopes: &[ScopeRow], s: u64, r: u64) -> bool
-    ensures { result ≡ under depth scopes.now s r }
-{
-    if r == s {
-        return true;
-    }
-    if depth == 0 {
-        return false;
-    }
-    match scopes.get(r as usize) {
-        None => false,
-        Some(scope) => match scope.parent() {
-            None => false,
-            Some(parent) => is_under(depth - 1, scopes, s, parent),
-        },
-    }
-}
-
-/// Whether an index hasn't begun of a loop in scope `s` or under it.
-pub fn are_ranges_left(scopes: &[ScopeRow], s: u64) -> bool
-    ensures { result ≡ ranges_in scopes.now s 0 scopes.now }
-{
-    for (number, scope) in scopes.iter().enumerate() {
-        let is_in = is_under(scopes.len(), scopes, s, number as u64);
-        if is_in && scope.is_range_left() {
-            return true;
-        }
-    }
-    false
 }
 
 /// The index of that scope's range has begun.

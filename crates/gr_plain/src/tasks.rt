@@ -1,20 +1,18 @@
 //! The tasks of a run by their ids.
-ghost use Rattle.std.specs.Prelude.{◌≡◌, ◌∷◌, ◌&&◌, IfOk, IfSome, OnOk, length, not};
-ghost use Rattle.std.specs.BTreeMap.{values, IsOrdered};
+ghost use Rattle.std.specs.Prelude.{◌≡◌, ◌∷◌, IfOk, IfSome, OnOk, length};
+ghost use Rattle.std.specs.BTreeMap.{IsOrdered};
 ghost use Rattle.std.specs.FinMap as fin;
-ghost use Rattle.std.specs.List.{list_any};
 ghost use Rattle.std.specs.Option.{option_copied};
-ghost use Rattle.gr_lang.specs.States.{at_loop, child, has_ended, id_cmp, innermost, is_at_loop as at_loop_mode, is_going as going_mode, is_under};
+ghost use Rattle.gr_lang.specs.States.{at_loop, child, id_cmp, innermost, is_at_loop as at_loop_mode, is_going as going_mode};
 ghost use Rattle.gr_lang.specs.Steps.{goes_on as gone_on};
 ghost use Rattle.gr_lang.specs.Objects.{nothing};
 ghost use Rattle.gr_plain.specs.StackView.{top_of, under_top};
 ghost use Rattle.gr_plain.specs.TaskView.{mode_of};
 
-use crate::running::Running;
-use crate::scopes::{ScopeRow, is_under};
-use crate::table::Table;
 use crate::word_stack::WordStack;
 use gr_lang::action::{Action, Reply, TaskId};
+use gr_steps::running::Running;
+use gr_steps::table::Table;
 use std::alloc::{AllocError, Global};
 use std::collections::BTreeMap;
 use std::marker::Model;
@@ -74,6 +72,13 @@ impl<'a> Row<'a> {
             opened: WordStack::new(alloc),
             mode: Mode::Going,
         })
+    }
+
+    /// The scope in which it stands.
+    pub fn scope(&self) -> u64
+        ensures { result ≡ self.now.scope }
+    {
+        self.scope
     }
 
     /// The scope under which its new work stands.
@@ -138,15 +143,6 @@ impl<'a> Row<'a> {
         self.opened.drop_top();
     }
 
-    fn is_left(&self, scopes: &[ScopeRow], s: u64) -> bool
-        ensures { result ≡ (not (has_ended self.now.mode) && is_under (length scopes.now) scopes.now s self.now.scope) }
-    {
-        match self.mode {
-            Mode::Ended => false,
-            _ => is_under(scopes.len(), scopes, s, self.scope),
-        }
-    }
-
     /// Goes on to the next action.
     fn go_on(
         &mut self,
@@ -164,12 +160,11 @@ impl<'a> Row<'a> {
     }
 }
 
-fn any_row_left(rows: &BTreeMap<TaskId, Row>, scopes: &[ScopeRow], s: u64) -> bool
-    ensures value { result ≡ list_any (λ t. not (has_ended t.mode) && is_under (length scopes.now) scopes.now s t.scope) (values rows.now) }
+fn row_count(rows: &BTreeMap<TaskId, Row>) -> usize
+    ensures value { result ≡ length rows.now.entries }
     ensures ordered { IsOrdered id_cmp rows.now }
 {
-    let _ = rows.len();
-    rows.values().any(|row| row.is_left(scopes, s))
+    rows.len()
 }
 
 /// The tasks by id.
@@ -316,11 +311,11 @@ impl<'a> Tasks<'a> {
         }
     }
 
-    /// Whether a task that hasn't ended stands in scope `s` or under it.
-    pub fn any_left(&self, scopes: &[ScopeRow], s: u64) -> bool
-        ensures { result ≡ list_any (λ t. not (has_ended t.mode) && is_under (length scopes.now) scopes.now s t.scope) (fin.values self.now) }
+    /// The number of tasks.
+    pub fn len(&self) -> usize
+        ensures { result ≡ fin.len self.now }
     {
-        any_row_left(&self.rows, scopes, s)
+        row_count(&self.rows)
     }
 }
 

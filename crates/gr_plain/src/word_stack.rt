@@ -1,6 +1,5 @@
 //! A stack of words.
-ghost use Rattle.std.specs.Prelude.{◌≡◌, ◌∷◌, ◌==◌, [], OnOk, length};
-ghost use Rattle.std.specs.List.{list_any};
+ghost use Rattle.std.specs.Prelude.{◌≡◌, ◌∷◌, [], OnOk};
 ghost use Rattle.gr_plain.specs.StackView.{top_of, under_top};
 
 use std::alloc::{AllocError, Global};
@@ -42,22 +41,6 @@ impl WordStack {
         }
     }
 
-    /// The number of words.
-    #[tactic(auto, using(crate::proofs::Stacks::stacks))]
-    pub fn len(&self) -> usize
-        ensures { result ≡ length self.now }
-    {
-        self.words.len()
-    }
-
-    /// Whether the word is there.
-    #[tactic(auto, using(crate::proofs::Stacks::stacks))]
-    pub fn has(&self, word: u64) -> bool
-        ensures { result ≡ list_any (λ k. k == word) self.now }
-    {
-        has_word(self.words.as_slice(), word)
-    }
-
     /// Puts a word on top.
     pub fn push(&mut self, word: u64) -> Result<(), AllocError>
         ensures { OnOk result (self.new ≡ word ∷ self.old) }
@@ -72,10 +55,4 @@ impl WordStack {
     {
         let _ = self.words.pop();
     }
-}
-
-fn has_word(words: &[u64], word: u64) -> bool
-    ensures { result ≡ list_any (λ k. k == word) words.now }
-{
-    words.iter().any(|other| *other == word)
 }

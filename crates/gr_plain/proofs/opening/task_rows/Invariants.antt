@@ -1,7 +1,0 @@
-use Rattle.std.proofs.Common.{◌≡◌, ◌++◌, drop, map}
-use Rattle.gr_lang.specs.Openings.{tasks_of}
-use Rattle.gr_plain.specs.TableView.{knowns_of, row_of}
-use Rattle.gr_plain.proofs.opening.task_rows.Given as goal
-
-abbrev pub invariant-loop-item : goal.invariant-loop-item
-invariant-loop-item l = map row_of l.rows.items ++ knowns_of (tasks_of (drop l.item-index l.items)) ≡ knowns_of (tasks_of l.items)

@@ -1,0 +1,5 @@
+pub mod Hits
+pub mod Ranges
+pub mod Reaches
+pub mod Known
+pub mod Looks
