@@ -117,7 +117,6 @@ pub none_of : (o : Option Task) → is_none o ≡ true → o ≡ None
 none_of None h = refl
 none_of (Some t) h = cc
 
-
 -- An id that is new stays new as another task is put in.
 pub still_new : (S : State) (id kid : TaskId) (t u : Task) → fin.get S.tasks id ≡ Some t → is_new S kid ≡ true → fin.get (fin.insert S.tasks id u) kid ≡ None
 still_new S id kid t u there new = fin.get-insert ids_total S.tasks id u kid ∙ by (id_cmp kid id) refl

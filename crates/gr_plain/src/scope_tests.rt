@@ -7,7 +7,9 @@ use std::alloc::{AllocError, Global};
 use std::test::Fail;
 
 const MAIN: TaskId = TaskId { core: 0, number: 0 };
+
 const CHILD: TaskId = TaskId { core: 0, number: 1 };
+
 const OTHER: TaskId = TaskId { core: 0, number: 2 };
 
 fn spawn(alloc: Global, child: TaskId) -> Entry {
@@ -109,7 +111,10 @@ fn nested_finishes_are_passed_from_within(rt: HostRuntime) -> Result<(), Fail> {
     let mut plain = Plain::start(alloc, &program, 1, 1000)?;
     let table = nested_entries(alloc)?;
     assert!(rt; !plain.complete());
-    assert_eq!(rt; first_other(alloc, &mut plain, table.as_slice())?, table.len());
+    assert_eq!(rt;
+        first_other(alloc, &mut plain, table.as_slice())?,
+        table.len()
+    );
     assert!(rt; plain.complete());
     Ok(())
 }
@@ -120,7 +125,10 @@ fn a_loop_over_all_numbers_opens(rt: HostRuntime) -> Result<(), Fail> {
     let program = wide(alloc)?;
     let mut plain = Plain::start(alloc, &program, 1, 1000)?;
     let table = wide_entries(alloc)?;
-    assert_eq!(rt; first_other(alloc, &mut plain, table.as_slice())?, table.len());
+    assert_eq!(rt;
+        first_other(alloc, &mut plain, table.as_slice())?,
+        table.len()
+    );
     assert!(rt; !plain.complete());
     Ok(())
 }

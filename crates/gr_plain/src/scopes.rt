@@ -30,7 +30,6 @@ pub struct ScopeRow {
 
 impl Model for ScopeRow {
     ghost use Rattle.gr_lang.specs.States.{Scope};
-
     ghost use Rattle.std.specs.Coded.{codes, coded_ℕ};
     ghost use Rattle.std.specs.FinSet as set;
     ghost use Rattle.std.specs.Ordering.{nat_cmp};

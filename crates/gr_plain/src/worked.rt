@@ -5,7 +5,9 @@ ghost use Rattle.gr_lang.specs.StepRows as rows;
 ghost use Rattle.gr_plain.specs.Worked as worked;
 
 use gr_lang::accepted::Accepted;
-use gr_lang::syntax::{BinOp, Expr, HowText, Item, Name, Number, Place, Program, Right, Stmt, Text};
+use gr_lang::syntax::{
+    BinOp, Expr, HowText, Item, Name, Number, Place, Program, Right, Stmt, Text,
+};
 use sqlite_items::{Boxed, Items};
 use std::alloc::{AllocError, Global};
 

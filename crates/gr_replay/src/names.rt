@@ -7,7 +7,7 @@ ghost use Rattle.gr_replay.specs.NamesView.{IsNumbered, either, number_of};
 
 use gr_lang::operation::HEAP;
 use gr_lang::syntax::{Item, Program, Text};
-use gr_plain::opening::object_names_of;
+use gr_steps::listing::object_names_of;
 use std::alloc::{AllocError, Global};
 use std::collections::HashMap;
 use std::marker::Model;

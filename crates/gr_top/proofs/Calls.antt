@@ -116,9 +116,9 @@ if_runs words (Some bytes) Q R X h = h bytes refl
 
 pub if_replays : (words : List (String Global)) (s : Option (List ℕ)) (Q R X : Type 0)
     → ((bytes : List ℕ) → s ≡ Some bytes → (o : Options) (b : Bool) → length bytes ≤ 2 ^ 26 → ReplaysAs (program_part bytes) (history_part bytes) (judged (verdict.legal b)) → asked words ≡ Some o
-        → o.command ≡ Replay → Q → R → X)
+    → o.command ≡ Replay → Q → R → X)
     → IfSome s (λ bytes. (o : Options) (b : Bool) → length bytes ≤ 2 ^ 26 → ReplaysAs (program_part bytes) (history_part bytes) (judged (verdict.legal b)) → asked words ≡ Some o
-        → o.command ≡ Replay → Q → R → X)
+    → o.command ≡ Replay → Q → R → X)
 if_replays words None Q R X h = tt
 if_replays words (Some bytes) Q R X h = h bytes refl
 

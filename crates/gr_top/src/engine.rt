@@ -68,7 +68,11 @@ pub(crate) fn not_built(alloc: Global) -> Result<Answer, AllocError>
 }
 
 /// How a run ended, and its prints, with the line of its first trap where it isn't complete.
-fn concluded(alloc: Global, history: &History, is_complete: bool) -> Result<(Refusal, Vec<u8>), AllocError>
+fn concluded(
+    alloc: Global,
+    history: &History,
+    is_complete: bool,
+) -> Result<(Refusal, Vec<u8>), AllocError>
     ensures refusal { IfOk result (λ r. r.0 ≡ (due_of_run is_complete history.now).refusal) }
     ensures text { IfOk result (λ r. r.1.items ≡ (due_of_run is_complete history.now).text) }
     ensures written { IfOk result (λ r. IsWritten r.0) }
