@@ -129,24 +129,16 @@ pub fn top<S: Source, K: Sink>(
         × Appends (K.got sink.old) (K.got sink.new) (prints world.history ++ told o.history p o.cores o.steps world.history)) }
 
     // Nothing but memory and faults stands between an accepted text, or a legal history, and its answer.
-    ensures checks { IfSome (S.left source.old) (λ bytes. (o : Options) (p : Program) → length bytes ≤ 2 ^ 20 → ReadsAs bytes (accepted p)
-        → asked_of words.now ≡ Some o → o.command ≡ command.Check
-        → (Rose (S.faults source.old) (S.faults source.new) → ⊥) → (Rose (K.faults sink.old) (K.faults sink.new) → ⊥)
-        → (result.status ≡ 0) ⊎ (result.status ≡ 6)) }
-    ensures runs { IfSome (S.left source.old) (λ bytes. (o : Options) (p : Program) → length bytes ≤ 2 ^ 20 → ReadsAs bytes (accepted p)
-        → asked_of words.now ≡ Some o → o.command ≡ command.Run → is_run o p ≡ true
-        → (Rose (S.faults source.old) (S.faults source.new) → ⊥) → (Rose (K.faults sink.old) (K.faults sink.new) → ⊥)
-        → (result.status ≡ 0) ⊎ (result.status ≡ 3) ⊎ (result.status ≡ 6)) }
+    ensures checks { IfSome (S.left source.old) (λ bytes. (o : Options) (p : Program) → length bytes ≤ 2 ^ 20 → ReadsAs bytes (accepted p) → asked_of words.now ≡ Some o
+        → o.command ≡ command.Check → (Rose (S.faults source.old) (S.faults source.new) → ⊥) → (Rose (K.faults sink.old) (K.faults sink.new) → ⊥) → (result.status ≡ 0) ⊎ (result.status ≡ 6)) }
+    ensures runs { IfSome (S.left source.old) (λ bytes. (o : Options) (p : Program) → length bytes ≤ 2 ^ 20 → ReadsAs bytes (accepted p) → asked_of words.now ≡ Some o
+        → o.command ≡ command.Run → is_run o p ≡ true → (Rose (S.faults source.old) (S.faults source.new) → ⊥) → (Rose (K.faults sink.old) (K.faults sink.new) → ⊥) → (result.status ≡ 0) ⊎ (result.status ≡ 3) ⊎ (result.status ≡ 6)) }
     ensures replays { IfSome (S.left source.old) (λ bytes. (o : Options) (is_complete : Bool) → length bytes ≤ 2 ^ 26
         → ReplaysAs (program_part bytes) (history_part bytes) (judged_as (legal_as is_complete))
-        → asked_of words.now ≡ Some o → o.command ≡ command.Replay
-        → (Rose (S.faults source.old) (S.faults source.new) → ⊥) → (Rose (K.faults sink.old) (K.faults sink.new) → ⊥)
-        → (result.status ≡ 0) ⊎ (result.status ≡ 6)) }
+        → asked_of words.now ≡ Some o → o.command ≡ command.Replay → (Rose (S.faults source.old) (S.faults source.new) → ⊥) → (Rose (K.faults sink.old) (K.faults sink.new) → ⊥) → (result.status ≡ 0) ⊎ (result.status ≡ 6)) }
 
     ensures refuses { IfSome (S.left source.old) (λ bytes. (o : Options) (f : Fault) → length bytes ≤ 2 ^ 20 → ReadsAs bytes (refused_as f)
-        → asked_of words.now ≡ Some o → is_on_text o.command ≡ true
-        → (Rose (S.faults source.old) (S.faults source.new) → ⊥) → (Rose (K.faults sink.old) (K.faults sink.new) → ⊥)
-        → (result.refusal ≡ Refusal.Refused f.kind f.at.line f.at.column) ⊎ (result.status ≡ 6)) }
+        → asked_of words.now ≡ Some o → is_on_text o.command ≡ true → (Rose (S.faults source.old) (S.faults source.new) → ⊥) → (Rose (K.faults sink.old) (K.faults sink.new) → ⊥) → (result.refusal ≡ Refusal.Refused f.kind f.at.line f.at.column) ⊎ (result.status ≡ 6)) }
 
     // With neither an answer nor a fault of the sink, nothing is written.
     ensures silent { (result.refusal ≡ Refusal.Memory) ⊎ (result.refusal ≡ Refusal.ReadFault)
