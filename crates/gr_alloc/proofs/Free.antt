@@ -1,5 +1,5 @@
 -- Whether n words are free at a start, told from what the live blocks answer at each address.
-use Rattle.std.proofs.Common.{◌≡◌, ℕ, ◌+◌, ◌<◌, List, [], ◌∷◌, Bool, true, false, ◌&&◌, Some, refl, sym, ap, ◌∙◌, arith, cond}
+use Rattle.std.proofs.Common.{◌≡◌, ℕ, ◌+◌, ◌<◌, List, [], ◌∷◌, Bool, true, false, ◌&&◌, ◌||◌, nat_le, Some, refl, sym, ap, ◌∙◌, arith, cond}
 use Rattle.std.proofs.lemmas.Bool.{and_from, and_parts, and_right, eqb-true, ne_eqb}
 use Rattle.std.proofs.lemmas.Bool.Decides.{nat_tests}
 use lib.Dec.{T}
@@ -9,7 +9,10 @@ use Rattle.std.specs.Cmp.{nat_cmp_total, unsigned_tied, tied_itself}
 use Rattle.std.specs.FinMap as map
 use Rattle.std.specs.FinMap.Entries.{below_all}
 use Rattle.gr_lang.specs.Objects.{is_free}
-use Rattle.gr_alloc.specs.BlockView.{clear}
+
+-- whether n words from `at` on stay off a block
+abbrev pub clear : ℕ → ℕ → ℕ × ℕ → Bool
+clear at n block = nat_le (at + n) block.0 || nat_le (block.0 + block.1) at
 
 abbrev found_in : List (ℕ × ℕ) → ℕ → ℕ → Type 0
 found_in es k w = map.find nat_cmp k es ≡ Some w

@@ -1,29 +1,26 @@
--- The live blocks as a tree map keeps them, and what always holds of them.
-use Rattle.std.specs.Prelude.{◌≡◌, ℕ, ◌+◌, ◌<◌, ◌≤◌, ◌^◌, ◌||◌, Bool, false, nat_le, List, All}
+-- The live blocks of the heap as the definitions see them, and what always holds of them.
+use Rattle.std.specs.Prelude.{ℕ, zero, suc, ◌+◌, ◌<◌, ◌^◌, List, length, Option, Some, None}
 use Rattle.std.specs.Ordering.{nat_cmp}
 use Rattle.std.specs.FinMap as map
-use Rattle.gr_lang.specs.Objects.{is_free}
 use Rattle.gr_alloc.specs.HeapBlocks.{HeapBlocks}
+use Rattle.gr_alloc.specs.HoleView.{AreHoles, live_at}
 use Rattle.gr_alloc.specs.declared.blocks.Blocks.TheInside.{Inside}
 
-abbrev pub live_of : List (ℕ × ℕ) → map.FinMap nat_cmp ℕ
-live_of entries = map.from_entries entries
+-- The live blocks with one more, where there is one.
+abbrev pub with_live : map.FinMap nat_cmp ℕ → ℕ → Option ℕ → map.FinMap nat_cmp ℕ
+with_live live start None = live
+with_live live start (Some words) = map.insert live start words
 
+-- The live blocks that start at the first n places of the heap, by their addresses.
+unfoldable pub live_below : ℕ → List ℕ → List ℕ → ℕ → map.FinMap nat_cmp ℕ
+live_below start sizes holes zero = map.empty
+live_below start sizes holes (suc n) = with_live (live_below start sizes holes n) (start + n) (live_at sizes holes n)
+
+-- The heap with its live blocks.
 abbrev pub blocks_of : Inside → HeapBlocks
-blocks_of b = record { heap = record { from = b.start; count = b.words }; live = live_of b.live.entries }
+blocks_of b = record { heap = record { from = b.start; count = length b.cuts }; live = live_below b.start b.cuts b.holes (length b.cuts) }
 
--- A block ends at this address or before it.
-abbrev pub EndsBy : ℕ → ℕ × ℕ → Type 0
-EndsBy bound block = block.0 + block.1 ≤ bound
-
+-- The heap's addresses are words of 64 bits, and its free words lie in holes.
 pub record IsBlocks (b : Inside) : Type 0 where
-  pub fits : b.start + b.words < 2 ^ 64
-  pub ends : All (EndsBy (b.start + b.words)) b.live.entries
-
--- Whether n words from `at` on stay off a block.
-abbrev pub clear : ℕ → ℕ → ℕ × ℕ → Bool
-clear at n block = nat_le (at + n) block.0 || nat_le (block.0 + block.1) at
-
--- At no start from `start` to before `end` are n words free.
-abbrev pub AreTaken : map.FinMap nat_cmp ℕ → ℕ → ℕ → ℕ → Type 0
-AreTaken live start end n = (at : ℕ) → start ≤ at → at < end → is_free live at n ≡ false
+  pub fits : b.start + length b.cuts < 2 ^ 64
+  pub holes : AreHoles b.cuts b.holes

@@ -2,4 +2,9 @@
 #![tactic(auto)]
 
 pub mod blocks;
-mod search;
+#[cfg(test)]
+mod blocks_tests;
+mod cuts;
+mod holes;
+mod nodes;
+mod peaks;

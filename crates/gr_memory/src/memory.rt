@@ -183,7 +183,10 @@ impl Memory {
             | Op::Push { object, .. }
             | Op::Pop { object }
             | Op::Dequeue { object } => self.change_thing(object, op),
-            Op::Alloc { count } => self.alloc(count),
+            Op::Alloc { count } => {
+                self.alloc(count);
+                Ok(())
+            }
             Op::Free { place } => {
                 self.free(place);
                 Ok(())
@@ -208,11 +211,10 @@ impl Memory {
         apply_at(&mut self.things, object, op)
     }
 
-    fn alloc(&mut self, count: u64) -> Result<(), AllocError>
-        ensures { OnOk result (self.new ≡ (spec.alloc_at (spec.start_for self.old count) self.old count).0) }
+    fn alloc(&mut self, count: u64)
+        ensures { self.new ≡ (spec.alloc_at (spec.start_for self.old count) self.old count).0 }
     {
-        self.blocks.alloc(count)?;
-        Ok(())
+        self.blocks.alloc(count);
     }
 
     fn free(&mut self, place: u64)

@@ -3,10 +3,13 @@
 //!
 //! A row has the words of the command line, the source, and the status and output that are due. The source
 //! is a text, or pieces of text each with the number of times that it is repeated, or bytes in hexadecimal.
+//! Or a row has a program, which is printed, read back and printed again.
 #![tactic(auto)]
 
+mod printed;
 mod row;
 
+use crate::printed::is_read_back;
 use crate::row::Row;
 use gr_io::{MemSink, MemSource};
 use gr_top::top;
@@ -37,11 +40,14 @@ fn main(rt: HostRuntime) -> anyhow::Result<()> {
         let line = line?;
         let value = Value::from_str(alloc, line.as_str())?;
         made = made.saturating_add(1);
-        let Some(row) = row::read_row(alloc, &value)? else {
-            println!(rt; "no row: {line}")?;
-            continue;
+        let is_as_it_says = match value.get("program").and_then(Value::as_str) {
+            Some(text) => is_read_back(alloc, text.as_bytes())?,
+            None => match row::read_row(alloc, &value)? {
+                Some(row) => agrees(alloc, row)?,
+                None => false,
+            },
         };
-        if agrees(alloc, row)? {
+        if is_as_it_says {
             agreed = agreed.saturating_add(1);
         } else {
             println!(rt; "not as it says: {line}")?;

@@ -4,4 +4,8 @@ pub mod Alone
 pub mod TextOnce
 pub mod Once
 pub mod Dues
+pub mod Told
+pub mod Exact
+pub mod Headline
+pub mod Calls
 pub mod Runs

@@ -20,7 +20,6 @@ use Rattle.gr_lang.specs.Steps.{step, goes_on, when, over_step}
 use Rattle.gr_lang.specs.Histories.{after, final, legal, complete}
 use Rattle.gr_top.specs.Alone.{straight_at, are_straight, DoesIn, IsAlone, work_left}
 use Rattle.gr_top.specs.Built.{is_built, built_head, built_item, built_statement, built_at}
-use Rattle.gr_top.specs.Due.{cores, steps}
 use Rattle.gr_plain.specs.Held.{Held, stepped, with_state, entry_due, entry_of}
 use Rattle.gr_plain.proofs.Histories.{after_append}
 use Rattle.gr_top.specs.Runs.{Comes}
@@ -135,8 +134,8 @@ none_moves S t h e =
 
 -- ---- the loop of the run
 
-pub run_begins : (p : Program) (held : Held) → is_built p ≡ true → held ≡ record { program = p; cores = cores; steps = steps; state = opening_state p steps } → Comes p held []
-run_begins p held h e = subst (λ (x : Held). Comes p x []) (sym e) (record {
+pub run_begins : (p : Program) (steps : ℕ) (held : Held) → is_built p ≡ true → held ≡ record { program = p; cores = 1; steps = steps; state = opening_state p steps } → Comes p steps held []
+run_begins p steps held h e = subst (λ (x : Held). Comes p steps x []) (sym e) (record {
   program = refl;
   on_cores = refl;
   in_steps = refl;
@@ -149,26 +148,26 @@ run_begins p held h e = subst (λ (x : Held). Comes p x []) (sym e) (record {
 same_state : (S T : State) → Some S ≡ Some T → S ≡ T
 same_state S T e = cc
 
-pub record Goes (p : Program) (held new : Held) (history : List Entry) (entry : Entry) : Type 0 where
-  pub comes : Comes p new (history ++ entry ∷ [])
+pub record Goes (p : Program) (steps : ℕ) (held new : Held) (history : List Entry) (entry : Entry) : Type 0 where
+  pub comes : Comes p steps new (history ++ entry ∷ [])
   pub less : work_left new.state < work_left held.state
 
 stepped_state : (held new : Held) (o : Option State) → option_map (with_state held) o ≡ Some new → (S : State) × (o ≡ Some S) × (with_state held S ≡ new)
 stepped_state held new None e = cc
 stepped_state held new (Some S) e = let k : with_state held S ≡ new = cc in (S, refl, k)
 
-pub run_goes : (p : Program) (held new : Held) (history : List Entry) (entry : Entry) → Comes p held history → entry_due held.state main_id ≡ Some entry → stepped held entry ≡ Some new → Goes p held new history entry
-run_goes p held new history entry h due e =
+pub run_goes : (p : Program) (steps : ℕ) (held new : Held) (history : List Entry) (entry : Entry) → Comes p steps held history → entry_due held.state main_id ≡ Some entry → stepped held entry ≡ Some new → Goes p steps held new history entry
+run_goes p steps held new history entry h due e =
     let moves : Moves p held.cores held.steps held.state entry = entry_moves p held.cores held.steps held.state h.task entry h.alone due in
     let at : step p held.cores held.steps held.state entry ≡ Some moves.advances.after = moves.advances.step in
     let same : with_state held moves.advances.after ≡ new =
     let k : option_map (with_state held) (step held.program held.cores held.steps held.state entry) ≡ Some (with_state held moves.advances.after) =
     subst (λ (q : Program). option_map (with_state held) (step q held.cores held.steps held.state entry) ≡ Some (with_state held moves.advances.after)) (sym h.program) (ap (option_map (with_state held)) at) in
     let q : Some (with_state held moves.advances.after) ≡ Some new = sym k ∙ e in cc in
-    let leads : final p cores steps (history ++ entry ∷ []) ≡ Some moves.advances.after =
-    after_more p cores steps (opening_state p steps) held.state moves.advances.after history entry h.leads
+    let leads : final p 1 steps (history ++ entry ∷ []) ≡ Some moves.advances.after =
+    after_more p 1 steps (opening_state p steps) held.state moves.advances.after history entry h.leads
     (subst (λ (n : ℕ). step p n steps held.state entry ≡ Some moves.advances.after) h.on_cores (subst (λ (n : ℕ). step p held.cores n held.state entry ≡ Some moves.advances.after) h.in_steps at)) in
-    let comes : Comes p (with_state held moves.advances.after) (history ++ entry ∷ []) = record {
+    let comes : Comes p steps (with_state held moves.advances.after) (history ++ entry ∷ []) = record {
       program = h.program;
       on_cores = h.on_cores;
       in_steps = h.in_steps;
@@ -177,11 +176,11 @@ run_goes p held new history entry h due e =
       alone = moves.advances.alone;
       trap = λ k. trap_last history entry (moves.trap k);
     } in
-    subst (λ (x : Held). Goes p held x history entry) same (record { comes = comes; less = rw (found_main moves.advances.after moves.task moves.advances.alone) moves.advances.less })
+    subst (λ (x : Held). Goes p steps held x history entry) same (record { comes = comes; less = rw (found_main moves.advances.after moves.task moves.advances.alone) moves.advances.less })
 
 -- The entry that is due is never refused.
-pub never_refused : (p : Program) (held : Held) (history : List Entry) (entry : Entry) → Comes p held history → entry_due held.state main_id ≡ Some entry → stepped held entry ≡ None → ⊥
-never_refused p held history entry h due e =
+pub never_refused : (p : Program) (steps : ℕ) (held : Held) (history : List Entry) (entry : Entry) → Comes p steps held history → entry_due held.state main_id ≡ Some entry → stepped held entry ≡ None → ⊥
+never_refused p steps held history entry h due e =
     let moves : Moves p held.cores held.steps held.state entry = entry_moves p held.cores held.steps held.state h.task entry h.alone due in
     let k : option_map (with_state held) (step held.program held.cores held.steps held.state entry) ≡ Some (with_state held moves.advances.after) =
     subst (λ (q : Program). option_map (with_state held) (step q held.cores held.steps held.state entry) ≡ Some (with_state held moves.advances.after)) (sym h.program) (ap (option_map (with_state held)) moves.advances.step) in
@@ -193,30 +192,30 @@ passes : (b : Bool) (S T : State) → when b (record S { passed = true }) ≡ So
 passes true S T e = let k : record S { passed = true } ≡ T = cc in ap (λ (x : State). x.passed) (sym k)
 passes false S T e = cc
 
-pub record Over (p : Program) (history : List Entry) : Type 0 where
-  pub legal : legal p cores steps history ≡ true
-  pub complete : complete p cores steps history ≡ true
+pub record Over (p : Program) (steps : ℕ) (history : List Entry) : Type 0 where
+  pub legal : legal p 1 steps history ≡ true
+  pub complete : complete p 1 steps history ≡ true
 
-pub run_over : (p : Program) (held new : Held) (history : List Entry) → Comes p held history → stepped held e.Over ≡ Some new → Over p (history ++ e.Over ∷ [])
-run_over p held new history h k =
+pub run_over : (p : Program) (steps : ℕ) (held new : Held) (history : List Entry) → Comes p steps held history → stepped held e.Over ≡ Some new → Over p steps (history ++ e.Over ∷ [])
+run_over p steps held new history h k =
     let s = stepped_state held new (over_step held.state) k in
-    let leads : final p cores steps (history ++ e.Over ∷ []) ≡ Some s.0 = after_more p cores steps (opening_state p steps) held.state s.0 history e.Over h.leads s.1 in
+    let leads : final p 1 steps (history ++ e.Over ∷ []) ≡ Some s.0 = after_more p 1 steps (opening_state p steps) held.state s.0 history e.Over h.leads s.1 in
     record { legal = ap is_some leads; complete = ap (λ o. option_map_or (λ S. S.passed) o false) leads ∙ passes _ held.state s.0 s.1 }
 
-pub record Stopped (p : Program) (history : List Entry) : Type 0 where
-  pub legal : legal p cores steps history ≡ true
-  pub incomplete : complete p cores steps history ≡ false
+pub record Stopped (p : Program) (steps : ℕ) (history : List Entry) : Type 0 where
+  pub legal : legal p 1 steps history ≡ true
+  pub incomplete : complete p 1 steps history ≡ false
   pub trap : is_some (first_trap history) ≡ true
 
-stopped_by : (p : Program) (held : Held) (history : List Entry) (h : Comes p held history) → stepped held e.Over ≡ None → (h.task.mode ≡ ended) ⊎ (h.task.mode ≡ trapped) → is_some (first_trap history) ≡ true
-stopped_by p held history h k (inl m) =
+stopped_by : (p : Program) (steps : ℕ) (held : Held) (history : List Entry) (h : Comes p steps held history) → stepped held e.Over ≡ None → (h.task.mode ≡ ended) ⊎ (h.task.mode ≡ trapped) → is_some (first_trap history) ≡ true
+stopped_by p steps held history h k (inl m) =
     let q : option_map (with_state held) (over_step held.state) ≡ Some (with_state held (record held.state { passed = true })) = ap (option_map (with_state held)) (over_steps p held.cores held.steps held.state h.task h.alone m) in
     let n : Some (with_state held (record held.state { passed = true })) ≡ None = sym q ∙ k in cc
-stopped_by p held history h k (inr m) = h.trap m
+stopped_by p steps held history h k (inr m) = h.trap m
 
-pub run_stopped : (p : Program) (held : Held) (history : List Entry) → Comes p held history → entry_due held.state main_id ≡ None → stepped held e.Over ≡ None → Stopped p history
-run_stopped p held history h none k = record {
+pub run_stopped : (p : Program) (steps : ℕ) (held : Held) (history : List Entry) → Comes p steps held history → entry_due held.state main_id ≡ None → stepped held e.Over ≡ None → Stopped p steps history
+run_stopped p steps held history h none k = record {
   legal = ap is_some h.leads;
   incomplete = ap (λ o. option_map_or (λ S. S.passed) o false) h.leads ∙ h.alone.unpassed;
-  trap = stopped_by p held history h k (none_moves held.state h.task h.alone none);
+  trap = stopped_by p steps held history h k (none_moves held.state h.task h.alone none);
 }

@@ -1,14 +1,42 @@
--- Which words are a command.
-use Rattle.std.specs.Prelude.{◌&&◌, if◌then◌else◌, List, [], ◌∷◌, codes, Option, None, Some, String, string_bytes}
+-- What the words ask for, and how much of the source that takes.
+use Rattle.std.specs.Prelude.{◌≡◌, ℕ, ◌^◌, ◌==◌, Bool, true, false, not, ◌&&◌, List, map, Option, None, Some, String, string_bytes}
 use Rattle.std.specs.declared.alloc.Global.{Global}
-use Rattle.std.specs.Str.{bytes_eq}
-use Rattle.gr_top.specs.declared.command.Command.{Command}
-use Rattle.gr_top.specs.declared.command.Command.TheVariants.{Run, Check}
+use Rattle.gr_lang.specs.declared.syntax.Program.{Program}
+use Rattle.gr_cli.specs.declared.settings.Options.{Options}
+use Rattle.gr_cli.specs.declared.settings.Command.{Command}
+use Rattle.gr_cli.specs.declared.settings.Command.TheVariants.{Run, Check, Replay, Bench}
+use Rattle.gr_cli.specs.Options.{options_of}
+use Rattle.gr_top.specs.Built.{is_built}
 
--- The words are exactly `check`, or exactly `run --cores 1`.
-abbrev pub command_of : List (String Global) → Option Command
-command_of (a ∷ []) = if bytes_eq (string_bytes a) (codes "check") then Some Check else None
-command_of (a ∷ b ∷ c ∷ []) =
-    if bytes_eq (string_bytes a) (codes "run") && (bytes_eq (string_bytes b) (codes "--cores") && bytes_eq (string_bytes c) (codes "1"))
-    then Some Run else None
-command_of _ = None
+-- The options of the words; none where they are no command line.
+abbrev pub asked : List (String Global) → Option Options
+asked words = options_of (map string_bytes words)
+
+-- Commands on one program text.
+abbrev pub is_on_text : Command → Bool
+is_on_text Run = true
+is_on_text Check = true
+is_on_text _ = false
+
+abbrev pub is_replay : Command → Bool
+is_replay Replay = true
+is_replay _ = false
+
+-- A bench makes its own text.
+abbrev pub is_read : Command → Bool
+is_read Bench = false
+is_read _ = true
+
+-- The words ask for nothing that the source holds.
+abbrev pub IsUnread : Option Options → Type 0
+IsUnread None = Unit {0}
+IsUnread (Some o) = is_read o.command ≡ false
+
+-- The most bytes that a source may hold.
+abbrev pub limit_of : Command → ℕ
+limit_of Replay = 2 ^ 26
+limit_of _ = 2 ^ 20
+
+-- What is run today: one core, no limit on events, no counts, and a program that is built.
+abbrev pub is_run : Options → Program → Bool
+is_run o p = o.cores == 1 && (o.events == 2 ^ 40 && (not o.counts && is_built p))

@@ -1,4 +1,4 @@
--- The answer due: the refusal and the text for a command, what the text reads as, and the history of its run; and what comes of it.
+-- The answer due: the refusal and the text for the options, what the text reads as, and the history of its run; and what comes of it.
 use Rattle.std.specs.Prelude.{◌≡◌, ℕ, ◌<◌, Bool, true, false, if◌then◌else◌, List, [], ◌++◌, length, take, Option, None, Some, is_some}
 use Rattle.std.specs.Io.KnownBytes.{Appends}
 use Rattle.gr_lang.specs.declared.syntax.Program.{Program}
@@ -7,26 +7,28 @@ use Rattle.gr_lang.specs.declared.refusal.Kind.TheVariants as k
 use Rattle.gr_lang.specs.declared.action.Entry.{Entry}
 use Rattle.gr_lang.specs.Faults.{fault}
 use Rattle.gr_lang.specs.Histories.{complete}
-use Rattle.gr_top.specs.Built.{is_built}
-use Rattle.gr_top.specs.Texts.{accepted_text, refused_text, usage_text, too_long_text, prints, first_trap, trap_text}
+use Rattle.gr_cli.specs.declared.settings.Options.{Options}
+use Rattle.gr_cli.specs.declared.settings.Command.{Command}
+use Rattle.gr_cli.specs.declared.settings.Command.TheVariants.{Run, Check, Replay, Bench}
+use Rattle.gr_hist.specs.Naming.{history_text}
+use Rattle.gr_replay.specs.Judged.{Verdict, legal, not_legal}
+use Rattle.gr_top.specs.Commands.{is_run}
+use Rattle.gr_top.specs.Texts.{accepted_text, refused_text, usage_text, too_long_text, legal_text, not_legal_text, bad_line_text, prints, first_trap, trap_text}
 use Rattle.gr_top.specs.declared.answer.Refusal.{Refusal}
-use Rattle.gr_top.specs.declared.answer.Refusal.TheVariants.{Nothing, Refused, Usage, Trap, ReadFault, WriteFault, Memory, TooLong}
+use Rattle.gr_top.specs.declared.answer.Refusal.TheVariants.{Nothing, Refused, Usage, Trap, ReadFault, WriteFault, Memory, TooLong, NotLegal, BadLine}
 use Rattle.gr_top.specs.declared.answer.WorldEnd.{WorldEnd}
-use Rattle.gr_top.specs.declared.command.Command.{Command}
-use Rattle.gr_top.specs.declared.command.Command.TheVariants.{Run, Check}
 use Rattle.gr_top.specs.declared.texts.TrapAt.{TrapAt}
-
--- One core, and at most so many pure steps between two actions.
-abbrev pub cores : ℕ
-cores = 1
-
-abbrev pub steps : ℕ
-steps = 1000000
 
 -- What a text reads as: an accepted program, or its first fault.
 pub data Reading : Type 0 where
   accepted : Program → Reading
   refused : Fault → Reading
+
+-- What a replay finds: the program's text is refused, the history text leaves its grammar at a line, or the history is judged.
+pub data Replayed : Type 0 where
+  unread : Fault → Replayed
+  bad_line : ℕ → Replayed
+  judged : Verdict → Replayed
 
 -- The exit status that goes with a refusal.
 abbrev pub status_of : Refusal → ℕ
@@ -38,6 +40,8 @@ status_of ReadFault = 4
 status_of (WriteFault written) = 5
 status_of Memory = 6
 status_of TooLong = 8
+status_of (NotLegal entry) = 9
+status_of (BadLine line) = 10
 
 -- A refusal, the text that goes to the sink, and whether a run was made.
 pub record Due : Type 0 where
@@ -45,14 +49,18 @@ pub record Due : Type 0 where
   pub text : List ℕ
   pub ran : Bool
 
+-- An answer without a run.
+abbrev pub said : Refusal → List ℕ → Due
+said refusal text = record { refusal = refusal; text = text; ran = false }
+
 abbrev pub due_usage : Due
-due_usage = record { refusal = Usage; text = usage_text; ran = false }
+due_usage = said Usage usage_text
 
 abbrev pub due_too_long : Due
-due_too_long = record { refusal = TooLong; text = too_long_text; ran = false }
+due_too_long = said TooLong too_long_text
 
 abbrev pub due_refused : Fault → Due
-due_refused f = record { refusal = Refused f.kind f.at.line f.at.column; text = refused_text f; ran = false }
+due_refused f = said (Refused f.kind f.at.line f.at.column) (refused_text f)
 
 abbrev pub not_built : Fault
 not_built = fault k.NotBuilt (record { line = 1; column = 1 })
@@ -67,21 +75,40 @@ abbrev pub due_of_run : Bool → List Entry → Due
 due_of_run true history = record { refusal = Nothing; text = prints history; ran = true }
 due_of_run false history = due_trapped history (first_trap history)
 
-abbrev pub due_after : Program → List Entry → Due
-due_after p history = due_of_run (complete p cores steps history) history
+-- The history text follows where the options ask for it.
+abbrev pub told : Bool → Program → ℕ → ℕ → List Entry → List ℕ
+told true p cores steps history = history_text p cores steps history
+told false p cores steps history = []
 
-abbrev pub due_run : Program → Option WorldEnd → Due
-due_run p None = record { refusal = Nothing; text = []; ran = true }
-due_run p (Some world) = due_after p world.history
+abbrev pub followed : Due → List ℕ → Due
+followed d more = record d { text = d.text ++ more }
 
-abbrev pub due_accepted : Command → Program → Option WorldEnd → Due
-due_accepted Check p world = record { refusal = Nothing; text = accepted_text; ran = false }
-due_accepted Run p world = if is_built p then due_run p world else due_refused not_built
+abbrev pub due_after : Options → Program → List Entry → Due
+due_after o p history = followed (due_of_run (complete p o.cores o.steps history) history) (told o.history p o.cores o.steps history)
+
+abbrev pub due_run : Options → Program → Option WorldEnd → Due
+due_run o p None = record { refusal = Nothing; text = []; ran = true }
+due_run o p (Some world) = due_after o p world.history
+
+abbrev pub due_accepted : Command → Options → Program → Option WorldEnd → Due
+due_accepted Check o p world = said Nothing accepted_text
+due_accepted Run o p world = if is_run o p then due_run o p world else due_refused not_built
+due_accepted _ o p world = due_refused not_built
 
 -- Of a command on a text that was read.
-abbrev pub due_read : Command → Reading → Option WorldEnd → Due
-due_read command (refused f) world = due_refused f
-due_read command (accepted p) world = due_accepted command p world
+abbrev pub due_read : Options → Reading → Option WorldEnd → Due
+due_read o (refused f) world = due_refused f
+due_read o (accepted p) world = due_accepted o.command o p world
+
+-- Of a replay.
+abbrev pub due_judged : Verdict → Due
+due_judged (legal is_complete) = said Nothing (legal_text is_complete)
+due_judged (not_legal entry) = said (NotLegal entry) (not_legal_text entry)
+
+abbrev pub due_replayed : Replayed → Due
+due_replayed (unread f) = due_refused f
+due_replayed (bad_line line) = said (BadLine line) (bad_line_text line)
+due_replayed (judged verdict) = due_judged verdict
 
 -- What came of an answer: it was given and its text written, or the sink failed and got only the front of the text.
 abbrev pub Came : Due → Option (List ℕ) → Option (List ℕ) → Refusal → Option WorldEnd → Type 0

@@ -1,5 +1,5 @@
 -- The texts that are written, each a line or more that ends with a newline.
-use Rattle.std.specs.Prelude.{ℕ, List, [], ◌∷◌, ◌++◌, Option, Some, None, codes}
+use Rattle.std.specs.Prelude.{ℕ, Bool, true, false, List, [], ◌∷◌, ◌++◌, Option, Some, None, codes}
 use Rattle.std.specs.Fmt.{decimal}
 use Rattle.gr_lang.specs.declared.refusal.Fault.{Fault}
 use Rattle.gr_lang.specs.declared.action.Entry.{Entry}
@@ -18,6 +18,16 @@ accepted_text = codes "accepted\n"
 
 abbrev pub too_long_text : List ℕ
 too_long_text = codes "input too long\n"
+
+abbrev pub legal_text : Bool → List ℕ
+legal_text true = codes "legal complete\n"
+legal_text false = codes "legal open\n"
+
+abbrev pub not_legal_text : ℕ → List ℕ
+not_legal_text entry = codes "not legal at entry " ++ (decimal entry ++ codes "\n")
+
+abbrev pub bad_line_text : ℕ → List ℕ
+bad_line_text line = codes "bad history line " ++ (decimal line ++ codes "\n")
 
 -- Where a text is refused, and why.
 abbrev pub refused_text : Fault → List ℕ

@@ -20,8 +20,12 @@ pub enum Refusal {
     WriteFault { written: u64 },
     /// Memory was wanting.
     Memory,
-    /// The source held more than 2^20 bytes.
+    /// The source held more bytes than the command reads.
     TooLong,
+    /// The entry with this number, counted from 1, is the first of a replayed history that is no step.
+    NotLegal { entry: u64 },
+    /// A replayed history text leaves its grammar in this line, counted from 1.
+    BadLine { line: u64 },
 }
 
 /// What is left of a run.
@@ -34,7 +38,7 @@ pub struct WorldEnd {
 /// The end of a call.
 #[derive(Drop)]
 pub struct RunEnd {
-    /// The exit status: 0 to 6 or 8, one for each kind of refusal.
+    /// The exit status: 0 to 6 or 8 to 10, one for each kind of refusal.
     pub status: u8,
     pub refusal: Refusal,
     /// What is left of the run, where one was made.
@@ -45,6 +49,6 @@ pub struct RunEnd {
 #[derive(Drop)]
 pub(crate) struct Answer {
     pub refusal: Refusal,
-    pub text: String,
+    pub text: Vec<u8>,
     pub world: Option<WorldEnd>,
 }

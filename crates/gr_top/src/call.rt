@@ -1,5 +1,5 @@
 //! The top call.
-ghost use Rattle.std.specs.Prelude.{List, ◌≡◌, ◌≢◌, ℕ, ◌<◌, ◌≤◌, ◌^◌, ◌⊎◌, IfOk, IsErrOf, IfSome, IsSome, Some, None, length, true, false};
+ghost use Rattle.std.specs.Prelude.{List, Bool, ◌++◌, String, ◌≡◌, ◌≢◌, ℕ, ◌<◌, ◌≤◌, ◌^◌, ◌⊎◌, IfOk, IsErrOf, IfSome, IsSome, Some, None, length, true, false};
 ghost use Rattle.std.specs.Io.KnownBytes.{Keeps, Appends, Consumes};
 ghost use Rattle.gr_io.specs.Faults.{Rose};
 ghost use Rattle.gr_lang.specs.Faults.{fault};
@@ -8,24 +8,26 @@ ghost use Rattle.gr_lang.specs.declared.syntax.Program.{Program};
 ghost use Rattle.gr_lang.specs.declared.refusal.Kind.{Kind};
 ghost use Rattle.gr_lang.specs.declared.refusal.Fault.{Fault};
 ghost use Rattle.gr_top.specs.declared.answer.WorldEnd.{WorldEnd};
-ghost use Rattle.gr_top.specs.declared.command.Command.TheVariants as command;
-ghost use Rattle.gr_top.specs.Built.{is_built};
-ghost use Rattle.gr_top.specs.Commands.{command_of};
-ghost use Rattle.gr_top.specs.Due.{accepted, refused as refused_as, status_of, cores, steps, IsWritten};
-ghost use Rattle.gr_top.specs.Readings.{ReadsAs, IsDue, Answered, IsRunOf, IsWorldOf, IsDelivered, Refusing};
+ghost use Rattle.gr_cli.specs.declared.settings.Options.{Options};
+ghost use Rattle.gr_cli.specs.declared.settings.Command.TheVariants as command;
+ghost use Rattle.gr_hist.specs.Grammar.{ReadsText};
+ghost use Rattle.gr_replay.specs.Division.{program_part, history_part};
+ghost use Rattle.gr_replay.specs.Judged.{legal as legal_as, not_legal as not_legal_as};
+ghost use Rattle.gr_top.specs.Commands.{asked as asked_of, is_on_text, is_read as reads_source, is_run, limit_of, IsUnread};
+ghost use Rattle.gr_top.specs.Due.{accepted, refused as refused_as, bad_line as bad_line_of, judged as judged_as, status_of, told, IsWritten};
+ghost use Rattle.gr_top.specs.Readings.{ReadsAs, ReplaysAs, IsDue, Answered, IsRunOf, IsWorldOf, IsDelivered, Refusing};
 ghost use Rattle.gr_top.specs.Texts.{prints};
 ghost use Rattle.gr_top.specs.Views.{made};
 
 use crate::answer::{Answer, Refusal, RunEnd};
-use crate::command::asked;
+use crate::command::{asked, is_read, is_replay, source_limit};
 use crate::delivery::deliver;
-use crate::engine::{run_text, said};
+use crate::engine::{not_built, run_text, said};
+use crate::replaying::replay_source;
 use crate::texts::USAGE;
+use gr_cli::Options;
 use gr_io::{ReadAllError, Sink, Source, read_all};
 use std::alloc::{AllocError, Global};
-
-/// The most bytes that a source may hold.
-const SOURCE_LIMIT: u64 = 1 << 20;
 
 /// Why there is no answer to write.
 #[derive(Clone, Copy, Debug, PartialEq, Eq)]
@@ -45,25 +47,46 @@ impl From<AllocError> for Stop {
     }
 }
 
+/// The answer to a command on the bytes of its source.
+fn answer_to(alloc: Global, options: Options, bytes: &[u8]) -> Result<Answer, AllocError>
+    requires reads { reads_source options.command ≡ true }
+    requires few { length bytes.now ≤ limit_of options.command }
+    ensures due { IfOk result (λ a. (words : List (String Global)) → asked_of words ≡ Some options → IsDue words bytes.now a.world (made a)) }
+    ensures world { IfOk result (λ a. (words : List (String Global)) → asked_of words ≡ Some options → IsWorldOf words bytes.now a.world) }
+    ensures written { IfOk result (λ a. IsWritten a.refusal) }
+{
+    if is_replay(options.command) {
+        let answer = replay_source(alloc, bytes)?;
+        Ok(answer)
+    } else {
+        let answer = run_text(alloc, options, bytes)?;
+        Ok(answer)
+    }
+}
+
 /// The answer to words and a source.
 fn answer<S: Source>(alloc: Global, words: &[String], source: &mut S) -> Result<Answer, Stop>
     ensures due { IfOk result (λ a. IfSome (S.left source.old) (λ bytes. IsDue words.now bytes a.world (made a))) }
-    ensures world { IfOk result (λ a. IfSome (S.left source.old) (λ bytes. IsWorldOf bytes a.world)) }
+    ensures world { IfOk result (λ a. IfSome (S.left source.old) (λ bytes. IsWorldOf words.now bytes a.world)) }
     ensures some_bytes { IfOk result (λ a. (bytes : List ℕ) × Consumes (S.left source.old) (S.left source.new) bytes
-        × IsDue words.now bytes a.world (made a) × IsWorldOf bytes a.world) }
+        × IsDue words.now bytes a.world (made a) × IsWorldOf words.now bytes a.world) }
     ensures written { IfOk result (λ a. IsWritten a.refusal) }
-    ensures unread { command_of words.now ≡ None → source.new ≡ source.old }
+    ensures unread { IsUnread (asked_of words.now) → source.new ≡ source.old }
     ensures fault { IsErrOf result Stop.ReadFault → Rose (S.faults source.old) (S.faults source.new) }
     ensures later { S.faults source.old ≤ S.faults source.new }
 {
-    let Some(command) = asked(words) else {
+    let Some(options) = asked(alloc, words)? else {
         let answer = said(alloc, Refusal::Usage, USAGE)?;
         return Ok(answer);
     };
-    let read = read_all(alloc, source, SOURCE_LIMIT);
+    if !is_read(options.command) {
+        let answer = not_built(alloc)?;
+        return Ok(answer);
+    }
+    let read = read_all(alloc, source, source_limit(options.command));
     match read {
         Ok(bytes) => {
-            let answer = run_text(alloc, command, bytes.as_slice())?;
+            let answer = answer_to(alloc, options, bytes.as_slice())?;
             Ok(answer)
         }
         Err(ReadAllError::ReadFault) => Err(Stop::ReadFault),
@@ -77,8 +100,10 @@ fn answer<S: Source>(alloc: Global, words: &[String], source: &mut S) -> Result<
 
 /// One command, from the words of the command line and the bytes of a source to the bytes of a sink.
 ///
-/// The words are `check` or `run --cores 1`. All texts, refusals included, go to the sink, and all memory
-/// is taken before the first write. The source is read to its end, of at most 2^20 bytes.
+/// The words are those of `gr_cli::options`. `run` and `check` read a program's text, of at most 2^20 bytes;
+/// `replay` reads a program's text, a line that is exactly `---`, and a history text, of at most 2^26 bytes
+/// together; `bench` and words that are refused read nothing. All texts, refusals included, go to the sink,
+/// and all memory is taken before the first write.
 pub fn top<S: Source, K: Sink>(
     alloc: Global,
     words: &[String],
@@ -90,31 +115,36 @@ pub fn top<S: Source, K: Sink>(
         Answered words.now bytes (K.got sink.old) (K.got sink.new) result.refusal result.world) }
 
     // That run is one of the program that the text reads as.
-    ensures history { IfSome (S.left source.old) (λ bytes. IsWorldOf bytes result.world) }
+    ensures history { IfSome (S.left source.old) (λ bytes. IsWorldOf words.now bytes result.world) }
 
     // Where the source doesn't tell what it holds, the same for the bytes that it gave.
     ensures some_bytes { IsDelivered result.refusal → (bytes : List ℕ) × Consumes (S.left source.old) (S.left source.new) bytes
         × Answered words.now bytes (K.got sink.old) (K.got sink.new) result.refusal result.world
-        × IsWorldOf bytes result.world }
+        × IsWorldOf words.now bytes result.world }
 
-    // The headline: at status 0 a run was made whose history is legal and complete for the program of the text, and the sink got its prints.
-    ensures headline { result.status ≡ 0 → command_of words.now ≡ Some command.Run → IfSome (S.left source.old) (λ bytes.
+    // The headline: at status 0 a run was made whose history is legal and complete for the program of the text, and the sink got its prints, and its history text where that was asked for.
+    ensures headline { result.status ≡ 0 → (o : Options) → asked_of words.now ≡ Some o → o.command ≡ command.Run → IfSome (S.left source.old) (λ bytes.
         (p : Program) × (world : WorldEnd) × ReadsAs bytes (accepted p) × (result.world ≡ Some world)
-        × (legal p cores steps world.history ≡ true) × (complete p cores steps world.history ≡ true)
-        × Appends (K.got sink.old) (K.got sink.new) (prints world.history)) }
+        × (legal p o.cores o.steps world.history ≡ true) × (complete p o.cores o.steps world.history ≡ true)
+        × Appends (K.got sink.old) (K.got sink.new) (prints world.history ++ told o.history p o.cores o.steps world.history)) }
 
-    // Nothing but memory and faults stands between an accepted text and its answer.
-    ensures checks { IfSome (S.left source.old) (λ bytes. (p : Program) → length bytes ≤ 2 ^ 20 → ReadsAs bytes (accepted p)
-        → command_of words.now ≡ Some command.Check
+    // Nothing but memory and faults stands between an accepted text, or a legal history, and its answer.
+    ensures checks { IfSome (S.left source.old) (λ bytes. (o : Options) (p : Program) → length bytes ≤ 2 ^ 20 → ReadsAs bytes (accepted p)
+        → asked_of words.now ≡ Some o → o.command ≡ command.Check
         → (Rose (S.faults source.old) (S.faults source.new) → ⊥) → (Rose (K.faults sink.old) (K.faults sink.new) → ⊥)
         → (result.status ≡ 0) ⊎ (result.status ≡ 6)) }
-    ensures runs { IfSome (S.left source.old) (λ bytes. (p : Program) → length bytes ≤ 2 ^ 20 → ReadsAs bytes (accepted p)
-        → command_of words.now ≡ Some command.Run → is_built p ≡ true
+    ensures runs { IfSome (S.left source.old) (λ bytes. (o : Options) (p : Program) → length bytes ≤ 2 ^ 20 → ReadsAs bytes (accepted p)
+        → asked_of words.now ≡ Some o → o.command ≡ command.Run → is_run o p ≡ true
         → (Rose (S.faults source.old) (S.faults source.new) → ⊥) → (Rose (K.faults sink.old) (K.faults sink.new) → ⊥)
         → (result.status ≡ 0) ⊎ (result.status ≡ 3) ⊎ (result.status ≡ 6)) }
+    ensures replays { IfSome (S.left source.old) (λ bytes. (o : Options) (is_complete : Bool) → length bytes ≤ 2 ^ 26
+        → ReplaysAs (program_part bytes) (history_part bytes) (judged_as (legal_as is_complete))
+        → asked_of words.now ≡ Some o → o.command ≡ command.Replay
+        → (Rose (S.faults source.old) (S.faults source.new) → ⊥) → (Rose (K.faults sink.old) (K.faults sink.new) → ⊥)
+        → (result.status ≡ 0) ⊎ (result.status ≡ 6)) }
 
-    ensures refuses { IfSome (S.left source.old) (λ bytes. (f : Fault) → length bytes ≤ 2 ^ 20 → ReadsAs bytes (refused_as f)
-        → command_of words.now ≢ None
+    ensures refuses { IfSome (S.left source.old) (λ bytes. (o : Options) (f : Fault) → length bytes ≤ 2 ^ 20 → ReadsAs bytes (refused_as f)
+        → asked_of words.now ≡ Some o → is_on_text o.command ≡ true
         → (Rose (S.faults source.old) (S.faults source.new) → ⊥) → (Rose (K.faults sink.old) (K.faults sink.new) → ⊥)
         → (result.refusal ≡ Refusal.Refused f.kind f.at.line f.at.column) ⊎ (result.status ≡ 6)) }
 
@@ -123,11 +153,15 @@ pub fn top<S: Source, K: Sink>(
         → Keeps (K.got sink.old) (K.got sink.new) × (result.world ≡ None) }
 
     // When each refusal comes.
-    ensures usage { result.refusal ≡ Refusal.Usage → command_of words.now ≡ None }
-    ensures unread { command_of words.now ≡ None → source.new ≡ source.old }
-    ensures too_long { result.refusal ≡ Refusal.TooLong → IfSome (S.left source.old) (λ bytes. 2 ^ 20 < length bytes) }
+    ensures usage { result.refusal ≡ Refusal.Usage → asked_of words.now ≡ None }
+    ensures unread { IsUnread (asked_of words.now) → source.new ≡ source.old }
+    ensures too_long { result.refusal ≡ Refusal.TooLong → IfSome (S.left source.old) (λ bytes. IfSome (asked_of words.now) (λ o. limit_of o.command < length bytes)) }
     ensures refused { (kind : Kind) (line column : ℕ) → result.refusal ≡ Refusal.Refused kind line column
-        → IfSome (S.left source.old) (λ bytes. Refusing bytes (command_of words.now) (fault kind (record { line = line; column = column }))) }
+        → IfSome (S.left source.old) (λ bytes. Refusing bytes (asked_of words.now) (fault kind (record { line = line; column = column }))) }
+    ensures not_legal { (entry : ℕ) → result.refusal ≡ Refusal.NotLegal entry
+        → IfSome (S.left source.old) (λ bytes. ReplaysAs (program_part bytes) (history_part bytes) (judged_as (not_legal_as entry))) }
+    ensures bad_line { (line : ℕ) → result.refusal ≡ Refusal.BadLine line
+        → IfSome (S.left source.old) (λ bytes. ReplaysAs (program_part bytes) (history_part bytes) (bad_line_of line)) }
     ensures read_fault { result.refusal ≡ Refusal.ReadFault → Rose (S.faults source.old) (S.faults source.new) }
     ensures write_fault { (written : ℕ) → result.refusal ≡ Refusal.WriteFault written → Rose (K.faults sink.old) (K.faults sink.new) }
     ensures source_later { S.faults source.old ≤ S.faults source.new }

@@ -1,25 +1,48 @@
 //! The words of the command line.
-ghost use Rattle.std.specs.Prelude.{◌≡◌};
-ghost use Rattle.gr_top.specs.Commands.{command_of};
+ghost use Rattle.std.specs.Prelude.{◌≡◌, IfOk};
+ghost use Rattle.gr_top.specs.Commands.{asked as asked_of, is_read as reads_source, is_replay as replays, limit_of};
 
-/// What the words ask for.
-#[derive(Clone, Copy, Debug, PartialEq, Eq)]
-pub enum Command {
-    /// Runs the program and writes what it prints.
-    Run,
-    /// Says whether the program is accepted.
-    Check,
+use gr_cli::{Command, Options, OptionsError, options};
+use std::alloc::{AllocError, Global};
+
+/// The options of the words; none where they are no command line.
+pub(crate) fn asked(alloc: Global, words: &[String]) -> Result<Option<Options>, AllocError>
+    ensures { IfOk result (λ options. options ≡ asked_of words.now) }
+{
+    let read = options(alloc, words);
+    match read {
+        Ok(options) => Ok(Some(options)),
+        Err(OptionsError::Usage) => Ok(None),
+        Err(OptionsError::OutOfMemory) => Err(AllocError),
+    }
 }
 
-/// The command of the words: exactly `check`, or exactly `run --cores 1`.
-pub(crate) fn asked(words: &[String]) -> Option<Command>
-    ensures { result ≡ command_of words.now }
+/// Whether the command reads the source; a bench makes its own text.
+pub(crate) fn is_read(command: Command) -> bool
+    ensures { result ≡ reads_source command }
 {
-    match words {
-        [a] if a.as_str() == "check" => Some(Command::Check),
-        [a, b, c] if a.as_str() == "run" && b.as_str() == "--cores" && c.as_str() == "1" => {
-            Some(Command::Run)
-        }
-        _ => None,
+    match command {
+        Command::Bench => false,
+        _ => true,
+    }
+}
+
+/// Whether the command replays a history.
+pub(crate) fn is_replay(command: Command) -> bool
+    ensures { result ≡ replays command }
+{
+    match command {
+        Command::Replay => true,
+        _ => false,
+    }
+}
+
+/// The most bytes that the source may hold.
+pub(crate) fn source_limit(command: Command) -> u64
+    ensures { result ≡ limit_of command }
+{
+    match command {
+        Command::Replay => 1 << 26,
+        _ => 1 << 20,
     }
 }

@@ -1,5 +1,5 @@
 //! The one place that writes.
-ghost use Rattle.std.specs.Prelude.{◌≡◌, ◌≢◌, ℕ, ◌≤◌, is_some, string_bytes};
+ghost use Rattle.std.specs.Prelude.{◌≡◌, ◌≢◌, ℕ, ◌≤◌, is_some};
 ghost use Rattle.gr_io.specs.Faults.{Rose};
 ghost use Rattle.gr_top.specs.Due.{status_of, Came, IsWritten};
 
@@ -19,13 +19,15 @@ pub(crate) fn status(refusal: Refusal) -> u8
         Refusal::WriteFault { .. } => 5,
         Refusal::Memory => 6,
         Refusal::TooLong => 8,
+        Refusal::NotLegal { .. } => 9,
+        Refusal::BadLine { .. } => 10,
     }
 }
 
 /// Writes an answer. It takes no memory.
 pub(crate) fn deliver<K: Sink>(sink: &mut K, answer: Answer) -> RunEnd
     requires { IsWritten answer.refusal }
-    ensures came { Came (record { refusal = answer.refusal; text = string_bytes answer.text; ran = is_some answer.world }) (K.got sink.old) (K.got sink.new) result.refusal result.world }
+    ensures came { Came (record { refusal = answer.refusal; text = answer.text.items; ran = is_some answer.world }) (K.got sink.old) (K.got sink.new) result.refusal result.world }
     ensures not_read_fault { result.refusal ≢ Refusal.ReadFault }
     ensures not_memory { result.refusal ≢ Refusal.Memory }
     ensures status { result.status ≡ status_of result.refusal }
@@ -39,7 +41,7 @@ pub(crate) fn deliver<K: Sink>(sink: &mut K, answer: Answer) -> RunEnd
         text,
         world,
     } = answer;
-    let wrote = write_all(sink, text.as_bytes());
+    let wrote = write_all(sink, text.as_slice());
     let refusal = match wrote {
         Ok(()) => refusal,
         Err(fault) => Refusal::WriteFault {

@@ -1,22 +1,28 @@
-//! From a command and a text to an answer that is whole before a byte is written.
-ghost use Rattle.std.specs.Prelude.{◌≡◌, ◌≤◌, ◌^◌, length, true, IfOk, IfSome, None, Some, string_bytes};
-ghost use Rattle.gr_top.specs.Built.{is_built as is_built_program};
-ghost use Rattle.gr_top.specs.Due.{Reading, due_read, due_accepted, due_run, due_of_run, due_refused, IsWritten};
-ghost use Rattle.gr_top.specs.Readings.{ReadsAs, IsRunOf, IsWorldOf};
+//! From options and a text to an answer that is whole before a byte is written.
+ghost use Rattle.std.specs.Prelude.{◌≡◌, ◌≤◌, ◌^◌, ◌++◌, length, true, IfOk, IfSome, OnOk, None, Some};
+ghost use Rattle.gr_lang.specs.declared.syntax.Program.{Program};
+ghost use Rattle.gr_top.specs.Commands.{is_on_text, is_run as is_run_today};
+ghost use Rattle.gr_top.specs.Due.{Reading, accepted as accepted_as, not_built as not_built_fault, due_read, due_accepted, due_run, due_of_run, due_refused, followed, told, IsWritten};
+ghost use Rattle.gr_top.specs.Readings.{ReadsAs, IsRunOf};
 ghost use Rattle.gr_top.specs.Views.{made};
 
 use crate::answer::{Answer, Refusal, WorldEnd};
 use crate::built::is_built;
-use crate::command::Command;
 use crate::reading::{TextRead, read_text};
 use crate::straight::{Ran, run};
 use crate::texts::{first_trap, prints, refused_text, write_trap};
+use gr_cli::{Command, Options};
+use gr_hist::write;
 use gr_lang::accepted::Accepted;
+use gr_lang::lists::History;
 use gr_lang::refusal::{Fault, Kind};
 use gr_lang::syntax::Place;
 use std::alloc::{AllocError, Global};
 
-/// What is said of an accepted program that isn't run today.
+/// The greatest limit on events: no straight run on one core meets it.
+const NO_LIMIT: u64 = 1 << 40;
+
+/// What is said where a command or an accepted program isn't run today.
 const NOT_BUILT: Fault = Fault {
     kind: Kind::NotBuilt,
     at: Place { line: 1, column: 1 },
@@ -24,17 +30,17 @@ const NOT_BUILT: Fault = Fault {
 
 /// An answer that tells no more than this text.
 pub(crate) fn said(alloc: Global, refusal: Refusal, text: &str) -> Result<Answer, AllocError>
-    ensures { IfOk result (λ a. (a.refusal ≡ refusal) × (string_bytes a.text ≡ text.now) × (a.world ≡ None)) }
+    ensures { IfOk result (λ a. (a.refusal ≡ refusal) × (a.text.items ≡ text.now) × (a.world ≡ None)) }
 {
     Ok(Answer {
         refusal,
-        text: String::from_str(alloc, text)?,
+        text: Vec::from_slice(alloc, text.as_bytes())?,
         world: None,
     })
 }
 
 /// The answer to a text that is refused.
-fn refused(alloc: Global, fault: Fault) -> Result<Answer, AllocError>
+pub(crate) fn refused(alloc: Global, fault: Fault) -> Result<Answer, AllocError>
     ensures due { IfOk result (λ a. made a ≡ due_refused fault) }
     ensures world { IfOk result (λ a. a.world ≡ None) }
     ensures written { IfOk result (λ a. IsWritten a.refusal) }
@@ -46,91 +52,132 @@ fn refused(alloc: Global, fault: Fault) -> Result<Answer, AllocError>
             line: fault.at.line,
             column: fault.at.column,
         },
-        text,
+        text: text.into_bytes(),
         world: None,
     })
 }
 
-/// The answer to a run: its prints, and where it isn't complete the line of its first trap.
-fn concluded(alloc: Global, ran: Ran) -> Result<Answer, AllocError>
-    ensures due { IfOk result (λ a. made a ≡ due_of_run ran.is_complete ran.history) }
-    ensures world { IfOk result (λ a. a.world ≡ Some (record { history = ran.history })) }
+/// The answer to what isn't run today.
+pub(crate) fn not_built(alloc: Global) -> Result<Answer, AllocError>
+    ensures due { IfOk result (λ a. made a ≡ due_refused not_built_fault) }
+    ensures world { IfOk result (λ a. a.world ≡ None) }
     ensures written { IfOk result (λ a. IsWritten a.refusal) }
 {
-    let Ran {
-        history,
-        is_complete,
-    } = ran;
+    let answer = refused(alloc, NOT_BUILT)?;
+    Ok(answer)
+}
+
+/// How a run ended, and its prints, with the line of its first trap where it isn't complete.
+fn concluded(alloc: Global, history: &History, is_complete: bool) -> Result<(Refusal, Vec<u8>), AllocError>
+    ensures refusal { IfOk result (λ r. r.0 ≡ (due_of_run is_complete history.now).refusal) }
+    ensures text { IfOk result (λ r. r.1.items ≡ (due_of_run is_complete history.now).text) }
+    ensures written { IfOk result (λ r. IsWritten r.0) }
+{
     let mut text = prints(alloc, history.as_slice())?;
     let trap = if is_complete {
         None
     } else {
         first_trap(history.as_slice())
     };
-    let refusal = match trap {
-        None => Refusal::Nothing,
+    match trap {
+        None => Ok((Refusal::Nothing, text.into_bytes())),
         Some(trap) => {
             write_trap(&mut text, trap)?;
-            Refusal::Trap {
+            let refusal = Refusal::Trap {
                 kind: trap.kind,
                 task: trap.task,
-            }
+            };
+            Ok((refusal, text.into_bytes()))
         }
+    }
+}
+
+/// Puts the history text behind what is to be written, where the options ask for it.
+fn add_history(
+    alloc: Global,
+    text: &mut Vec<u8>,
+    options: Options,
+    program: &Accepted,
+    history: &History,
+) -> Result<(), AllocError>
+    ensures { OnOk result (text.new.items ≡ text.old.items ++ told options.history program.now options.cores options.steps history.now) }
+{
+    if options.history {
+        let lines = write(alloc, program, options.cores, options.steps, history)?;
+        text.extend_from_slice(lines.as_slice())?;
+    }
+    Ok(())
+}
+
+/// The answer to a program that is run today.
+fn run_program(alloc: Global, options: Options, program: &Accepted) -> Result<Answer, AllocError>
+    requires { is_run_today options program.now ≡ true }
+    ensures due { IfOk result (λ a. made a ≡ due_run options program.now a.world) }
+    ensures runs { IfOk result (λ a. IfSome a.world (λ world. IsRunOf options program.now world)) }
+    ensures written { IfOk result (λ a. IsWritten a.refusal) }
+{
+    let ran = run(alloc, program, options.steps)?;
+    let (refusal, mut text) = concluded(alloc, &ran.history, ran.is_complete)?;
+    add_history(alloc, &mut text, options, program, &ran.history)?;
+    let world = WorldEnd {
+        history: ran.history,
     };
     Ok(Answer {
         refusal,
         text,
-        world: Some(WorldEnd { history }),
+        world: Some(world),
     })
 }
 
-/// The answer to a program that is run today.
-fn run_program(alloc: Global, program: &Accepted) -> Result<Answer, AllocError>
-    requires { is_built_program program.now ≡ true }
-    ensures due { IfOk result (λ a. made a ≡ due_run program.now a.world) }
-    ensures runs { IfOk result (λ a. IfSome a.world (λ world. IsRunOf program.now world)) }
-    ensures written { IfOk result (λ a. IsWritten a.refusal) }
+/// Whether the program is run today with these options.
+fn is_run(options: Options, program: &Accepted) -> bool
+    ensures { result ≡ is_run_today options program.now }
 {
-    let ran = run(alloc, program)?;
-    let answer = concluded(alloc, ran)?;
-    Ok(answer)
+    options.cores == 1
+        && options.events == NO_LIMIT
+        && !options.counts
+        && is_built(program.program())
 }
 
 /// The answer to an accepted program.
-fn accepted(alloc: Global, command: Command, program: &Accepted) -> Result<Answer, AllocError>
-    ensures due { IfOk result (λ a. made a ≡ due_accepted command program.now a.world) }
-    ensures runs { IfOk result (λ a. IfSome a.world (λ world. IsRunOf program.now world)) }
+fn accepted(alloc: Global, options: Options, program: &Accepted) -> Result<Answer, AllocError>
+    ensures due { IfOk result (λ a. made a ≡ due_accepted options.command options program.now a.world) }
+    ensures runs { IfOk result (λ a. IfSome a.world (λ world. IsRunOf options program.now world)) }
     ensures written { IfOk result (λ a. IsWritten a.refusal) }
 {
-    match command {
+    match options.command {
         Command::Check => {
             let answer = said(alloc, Refusal::Nothing, "accepted\n")?;
             Ok(answer)
         }
         Command::Run => {
-            let is_run = is_built(program.program());
+            let is_run = is_run(options, program);
             if is_run {
-                let answer = run_program(alloc, program)?;
+                let answer = run_program(alloc, options, program)?;
                 Ok(answer)
             } else {
-                let answer = refused(alloc, NOT_BUILT)?;
+                let answer = not_built(alloc)?;
                 Ok(answer)
             }
+        }
+        Command::Replay | Command::Bench => {
+            let answer = not_built(alloc)?;
+            Ok(answer)
         }
     }
 }
 
-/// The answer to a command on a text.
-pub(crate) fn run_text(alloc: Global, command: Command, text: &[u8]) -> Result<Answer, AllocError>
-    requires { length text.now ≤ 2 ^ 20 }
-    ensures due { IfOk result (λ a. (reading : Reading) × ReadsAs text.now reading × (made a ≡ due_read command reading a.world)) }
-    ensures world { IfOk result (λ a. IsWorldOf text.now a.world) }
+/// The answer to a command on a program text.
+pub(crate) fn run_text(alloc: Global, options: Options, text: &[u8]) -> Result<Answer, AllocError>
+    requires { length text.now ≤ 2 ^ 26 }
+    ensures due { IfOk result (λ a. (reading : Reading) × ReadsAs text.now reading × (made a ≡ due_read options reading a.world)) }
+    ensures world { IfOk result (λ a. IfSome a.world (λ world. (p : Program) × ReadsAs text.now (accepted_as p) × IsRunOf options p world)) }
     ensures written { IfOk result (λ a. IsWritten a.refusal) }
 {
     let read = read_text(alloc, text)?;
     match read {
         TextRead::Accepted { program } => {
-            let answer = accepted(alloc, command, &program)?;
+            let answer = accepted(alloc, options, &program)?;
             Ok(answer)
         }
         TextRead::Refused { fault } => {

@@ -3,12 +3,14 @@
 ghost use Rattle.std.specs.Prelude.{◌≡◌, ℕ, List, Option, String};
 ghost use Rattle.std.specs.declared.alloc.Global.{Global};
 ghost use Rattle.gr_top.specs.declared.answer.WorldEnd.{WorldEnd};
-ghost use Rattle.gr_top.specs.Due.{Reading, Due};
-ghost use Rattle.gr_top.specs.Readings.{ReadsAs, IsDue};
+ghost use Rattle.gr_top.specs.Due.{Reading, Replayed, Due};
+ghost use Rattle.gr_top.specs.Readings.{ReadsAs, ReplaysAs, IsDue};
 
-/// A text reads as one accepted program or as one first fault, and so one answer is due.
+/// A text reads as one accepted program or as one first fault, a replay finds one thing, and so one answer
+/// is due.
 pub fn answers_are_exact()
     ensures reading { (text : List ℕ) (r q : Reading) → ReadsAs text r → ReadsAs text q → r ≡ q }
+    ensures replay { (text history : List ℕ) (x y : Replayed) → ReplaysAs text history x → ReplaysAs text history y → x ≡ y }
     ensures due { (words : List (String Global)) (bytes : List ℕ) (world : Option WorldEnd) (d e : Due)
         → IsDue words bytes world d → IsDue words bytes world e → d ≡ e }
 {}

@@ -9,6 +9,7 @@ mod delivery;
 mod engine;
 mod laws;
 mod reading;
+mod replaying;
 mod straight;
 #[cfg(test)]
 mod tests;

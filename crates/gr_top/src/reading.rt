@@ -103,7 +103,7 @@ fn checked(
 
 /// What the text reads as: tokens, then grammar, then checker.
 pub(crate) fn read_text(alloc: Global, text: &[u8]) -> Result<TextRead, AllocError>
-    requires { length text.now ≤ 2 ^ 20 }
+    requires { length text.now ≤ 2 ^ 26 }
     ensures { IfOk result (λ read. ReadsAs text.now (reading_of read)) }
 {
     let found = tokens(alloc, text);

@@ -2,7 +2,6 @@
 ghost use Rattle.std.specs.Prelude.{◌≡◌, ◌⊎◌, IfOk, true, is_some};
 ghost use Rattle.gr_lang.specs.Histories.{legal, complete};
 ghost use Rattle.gr_top.specs.Built.{is_built as is_built_program};
-ghost use Rattle.gr_top.specs.Due.{cores, steps};
 ghost use Rattle.gr_top.specs.Texts.{first_trap};
 
 use gr_lang::accepted::Accepted;
@@ -14,9 +13,6 @@ use std::alloc::{AllocError, Global};
 /// The number of cores.
 const CORES: u64 = 1;
 
-/// The most pure steps between two actions.
-const STEPS: u64 = 1_000_000;
-
 /// The first task.
 const MAIN: TaskId = TaskId { core: 0, number: 0 };
 
@@ -27,14 +23,15 @@ pub(crate) struct Ran {
     pub is_complete: bool,
 }
 
-/// Takes the entries of main in their order, and then the end of the run where main has ended.
-pub(crate) fn run(alloc: Global, program: &Accepted) -> Result<Ran, AllocError>
+/// Takes the entries of main in their order, and then the end of the run where main has ended. `steps` is
+/// the most pure steps between two actions.
+pub(crate) fn run(alloc: Global, program: &Accepted, steps: u64) -> Result<Ran, AllocError>
     requires { is_built_program program.now ≡ true }
-    ensures legal { IfOk result (λ ran. legal program.now cores steps ran.history ≡ true) }
-    ensures complete { IfOk result (λ ran. complete program.now cores steps ran.history ≡ ran.is_complete) }
+    ensures legal { IfOk result (λ ran. legal program.now 1 steps ran.history ≡ true) }
+    ensures complete { IfOk result (λ ran. complete program.now 1 steps ran.history ≡ ran.is_complete) }
     ensures ends { IfOk result (λ ran. (ran.is_complete ≡ true) ⊎ (is_some (first_trap ran.history) ≡ true)) }
 {
-    let mut plain = Plain::start(alloc, program, CORES, STEPS)?;
+    let mut plain = Plain::start(alloc, program, CORES, steps)?;
     let mut history = History::new(alloc);
     'entries: loop {
         let next = plain.next_call(MAIN)?;

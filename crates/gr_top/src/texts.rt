@@ -24,6 +24,35 @@ pub(crate) fn refused_text(alloc: Global, fault: Fault) -> Result<String, AllocE
     Ok(text)
 }
 
+/// What is said of a legal history.
+pub(crate) fn legal_text(is_complete: bool) -> &'static str
+    ensures { result.now ≡ spec.legal_text is_complete }
+{
+    if is_complete {
+        "legal complete\n"
+    } else {
+        "legal open\n"
+    }
+}
+
+/// The line that names the first entry that is no step.
+pub(crate) fn not_legal_text(alloc: Global, entry: u64) -> Result<String, AllocError>
+    ensures { IfOk result (λ text. string_bytes text ≡ spec.not_legal_text entry) }
+{
+    let mut text = String::new(alloc);
+    writeln!(text, "not legal at entry {entry}")?;
+    Ok(text)
+}
+
+/// The line that names the first bad line of a history text.
+pub(crate) fn bad_line_text(alloc: Global, line: u64) -> Result<String, AllocError>
+    ensures { IfOk result (λ text. string_bytes text ≡ spec.bad_line_text line) }
+{
+    let mut text = String::new(alloc);
+    writeln!(text, "bad history line {line}")?;
+    Ok(text)
+}
+
 fn printed_by(entry: &Entry) -> Option<u64>
     ensures { result ≡ spec.printed_by entry.now }
 {

@@ -1,0 +1,12 @@
+pub mod Maps
+pub mod Looks
+pub mod Scopes
+pub mod Counts
+pub mod Direct
+pub mod Changes
+pub mod Goes
+pub mod Inverts
+pub mod Calls
+pub mod Opens
+pub mod Passes
+pub mod States

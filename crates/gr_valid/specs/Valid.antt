@@ -1,5 +1,5 @@
 -- What holds of every state that a history leads to: each task has opened its scopes one inside the other, and what isn't finished stands in a scope that isn't passed.
-use Rattle.std.specs.Prelude.{◌≡◌, ◌≢◌, ℕ, zero, suc, ◌+◌, ◌<◌, ◌==◌, ◌⊎◌, Bool, true, false, All, List, [], ◌∷◌, length, slice_get, Option, Some, None, if◌then◌else◌}
+use Rattle.std.specs.Prelude.{◌≡◌, ◌≢◌, ℕ, suc, ◌+◌, ◌<◌, ◌==◌, ◌⊎◌, true, All, List, [], ◌∷◌, length, slice_get, Some}
 use Rattle.std.specs.List.{list_any}
 use Rattle.std.specs.FinMap as fin
 use Rattle.gr_lang.specs.declared.syntax.Program.{Program}
@@ -7,7 +7,7 @@ use Rattle.gr_lang.specs.declared.action.Action.{Action}
 use Rattle.gr_lang.specs.declared.action.Action.TheVariants as a
 use Rattle.gr_lang.specs.declared.action.TaskId.{TaskId}
 use Rattle.gr_lang.specs.Next.{Running, Todo, run, arrive, look, acts}
-use Rattle.gr_lang.specs.States.{Mode, going, at_loop, ended, trapped, Task, Scope, State, root, innermost_of, is_at_loop, range_left}
+use Rattle.gr_lang.specs.States.{Mode, at_loop, ended, Task, Scope, State, root, innermost_of, range_left}
 
 -- The number of ends of `finish` that are still to do.
 abbrev pub arrives : List Todo → ℕ
@@ -15,10 +15,12 @@ arrives [] = 0
 arrives (arrive ∷ rest) = suc (arrives rest)
 arrives (run s ∷ rest) = arrives rest
 
+-- The action is a trap.
 abbrev pub IsTrap : Action → Type 0
 IsTrap (a.Trap kind) = Unit {0}
 IsTrap _ = ⊥
 
+-- The action opens a loop.
 abbrev pub IsLoop : Action → Type 0
 IsLoop (a.Loop lo hi grain target args) = Unit {0}
 IsLoop _ = ⊥
@@ -45,6 +47,7 @@ abbrev pub waits : Mode → ℕ
 waits at_loop = 1
 waits _ = 0
 
+-- A task stands at its action, and has a scope open for each end that it has still to do; where it has ended it has none.
 pub record IsValidTask (p : Program) (scopes : List Scope) (id : TaskId) (t : Task) : Type 0 where
   pub stands : StandsAt p t.running t.action
   pub loops : t.mode ≡ at_loop → IsLoop t.action
@@ -59,6 +62,7 @@ pub record IsOpen (S : State) (s : ℕ) : Type 0 where
   pub there : fin.get S.tasks id ≡ Some task
   pub opened : list_any (λ k. k == s) task.opened ≡ true
 
+-- The root is there, each task is valid, and what isn't finished stands in a scope that is open.
 pub record IsValid (p : Program) (S : State) : Type 0 where
   pub root : slice_get S.scopes 0 ≡ Some root
   pub tasks : (id : TaskId) (t : Task) → fin.get S.tasks id ≡ Some t → IsValidTask p S.scopes id t

@@ -1,10 +1,15 @@
 //! The laws, each the contract of a function that does nothing.
-ghost use Rattle.gr_valid.specs.Work.{OpensValid, StepsValid, WorkIsDirect};
+ghost use Rattle.gr_valid.specs.Work.{OpensValid, StepsValid, HistoriesValid, WorkIsDirect};
 
 /// The opening state is valid, and a step of a valid state leads to a valid state.
 pub fn states_stay_valid()
     ensures opens { OpensValid }
     ensures steps { StepsValid }
+{}
+
+/// The state that a history leads to is valid.
+pub fn histories_are_valid()
+    ensures { HistoriesValid }
 {}
 
 /// The work that is left under a scope which waits to be passed stands in that scope itself.

@@ -1,22 +1,22 @@
-use Rattle.std.proofs.Common.{◌+◌, ◌≤◌, ◌∙◌, sym, ap, subst}
-use Rattle.std.specs.Prelude.{All}
+use Rattle.std.proofs.Common.{◌+◌, Some, None, sym, ap, ◌∙◌, arith}
 use Rattle.std.specs.FinMap as fin
+use Rattle.gr_lang.specs.Objects.{start_in}
 use Rattle.gr_alloc.specs.HeapBlocks.{HeapBlocks}
-use Rattle.gr_alloc.specs.BlockView.{EndsBy}
-use Rattle.gr_alloc.proofs.Ends.{ends-insert}
-use Rattle.gr_alloc.proofs.Trees.{put_pair}
+use Rattle.gr_alloc.proofs.LiveMap.{changed_heap}
+use Rattle.gr_alloc.proofs.Starts.{start_found}
 use Rattle.gr_alloc.proofs.blocks.Blocks.alloc.Goals as goal
 
-pub invariant_of-self : goal.invariant_of-self
-invariant_of-self c =
-    let bound = c.self.inside.start + c.self.inside.words in
-    let fits : c.in-Some.start + c.args.count ≤ bound = c.in-Some.ensures.within in
-    record {
-      fits = c.self.invariant.fits;
-      ends = subst (All (EndsBy bound)) (sym c.in_ok-insert.ensures.entries) (ends-insert bound c.self.inside.live.entries c.in-Some.start c.args.count c.self.invariant.ends fits);
-    }
+pub returns-in-Some-clause-place : goal.returns-in-Some-clause-place
+returns-in-Some-clause-place c =
+    start_found c.self.inside.start c.self.inside.cuts c.self.inside.holes c.args.count c.self.invariant.holes (Some c.in-Some.place) (sym c.in-Some.is ∙ c.first_place.ensures.value)
+    ∙ ap (λ (b : HeapBlocks). start_in b.heap b.live c.args.count) c.self.view_is
 
-pub returns-in_ok-insert-clause-value : goal.returns-in_ok-insert-clause-value
-returns-in_ok-insert-clause-value c =
-    ap (λ live. record { heap = record { from = c.self.inside.start; count = c.self.inside.words }; live = live }) (put_pair c.self.inside.live.entries c.insert.new.self.entries c.in-Some.start c.args.count c.in_ok-insert.ensures.updates.0)
-    ∙ ap (λ (m : HeapBlocks). record { heap = m.heap; live = fin.insert m.live c.in-Some.start c.args.count }) c.self.view_is
+pub returns-in-Some-clause-value : goal.returns-in-Some-clause-value
+returns-in-Some-clause-value c =
+    changed_heap c.self.inside.start c.self.inside.cuts c.self.inside.holes c.fill.new.cuts c.fill.new.holes c.in-Some.place (Some c.args.count) c.fill.ensures.live c.fill.ensures.len (omega (arith, c.in-Some.ensures.inside, c.in-Some.ensures.some))
+    ∙ ap (λ (b : HeapBlocks). record b { live = fin.insert b.live (c.self.inside.start + c.in-Some.place) c.args.count }) c.self.view_is
+
+pub returns-in-None-clause-place : goal.returns-in-None-clause-place
+returns-in-None-clause-place c =
+    start_found c.self.inside.start c.self.inside.cuts c.self.inside.holes c.args.count c.self.invariant.holes None (sym c.in-None.is ∙ c.first_place.ensures.value)
+    ∙ ap (λ (b : HeapBlocks). start_in b.heap b.live c.args.count) c.self.view_is

@@ -1,0 +1,41 @@
+-- Worked rows: how the words of a line are written in one text, and the options that a row compares with.
+use Rattle.std.specs.Prelude.{◌≡◌, ◌==◌, ◌^◌, true, false, List, None, Some}
+use Rattle.std.specs.List.{slice_split}
+use Rattle.clap.specs.Words.{Text}
+use Rattle.gr_cli.specs.Options.{is_refused, options_of}
+use Rattle.gr_cli.specs.declared.settings.BenchKind.TheVariants.{Words}
+use Rattle.gr_cli.specs.declared.settings.Command.TheVariants.{Run}
+use Rattle.gr_cli.specs.declared.settings.Options.{Options}
+
+-- The words of a line, which has one space between two of them.
+abbrev pub line : Text → List Text
+line text = slice_split (λ byte. byte == 32) text
+
+-- What the word `run` alone gives: each option has its default.
+abbrev pub run_options : Options
+run_options = record {
+  command = Run;
+  cores = 4;
+  block = 8;
+  limit = 32;
+  steps = 1000000;
+  slice = 1024;
+  events = 2 ^ 40;
+  history = false;
+  counts = false;
+  kind = Words;
+  size = 1000;
+  seed = 1;
+}
+
+-- The words give these options.
+abbrev pub GivesOptions : List Text → Options → Type 0
+GivesOptions words options = options_of words ≡ Some options
+
+-- `clap` refuses the words, so they give no options.
+abbrev pub IsRefusedByClap : List Text → Type 0
+IsRefusedByClap words = (is_refused words ≡ true) × (options_of words ≡ None)
+
+-- `clap` takes the words, but one of them is no value of its argument, so they give no options.
+abbrev pub HasFaultyValue : List Text → Type 0
+HasFaultyValue words = (is_refused words ≡ false) × (options_of words ≡ None)

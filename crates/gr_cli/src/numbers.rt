@@ -1,0 +1,104 @@
+//! The numbers of options.
+ghost use Rattle.std.specs.Prelude.{◌≡◌};
+ghost use Rattle.std.specs.Char.{is_ascii_digit};
+ghost use Rattle.std.specs.List.{list_all};
+ghost use Rattle.gr_cli.specs.Numbers as spec;
+
+/// The numbers that an option takes, and the one that it has where the words give none.
+#[derive(Clone, Copy)]
+pub struct Numbers {
+    pub default: u64,
+    pub least: u64,
+    pub most: u64,
+}
+
+impl Numbers {
+    fn contains(self, value: u64) -> bool
+        ensures { result ≡ spec.contains self value }
+    {
+        self.least <= value && value <= self.most
+    }
+}
+
+/// The number of cores.
+pub const CORES: Numbers = Numbers {
+    default: 4,
+    least: 1,
+    most: 16,
+};
+
+/// The words of a block.
+pub const BLOCK: Numbers = Numbers {
+    default: 8,
+    least: 1,
+    most: 4096,
+};
+
+/// The messages with which a packet is shipped at once.
+pub const LIMIT: Numbers = Numbers {
+    default: 32,
+    least: 1,
+    most: 256,
+};
+
+/// The most pure steps between two actions.
+pub const STEPS: Numbers = Numbers {
+    default: 1000000,
+    least: 1,
+    most: 1 << 40,
+};
+
+/// The most events of a core in a round.
+pub const SLICE: Numbers = Numbers {
+    default: 1024,
+    least: 1,
+    most: 65536,
+};
+
+/// The clock of a core at which a run is ended.
+pub const EVENTS: Numbers = Numbers {
+    default: 1 << 40,
+    least: 1,
+    most: 1 << 40,
+};
+
+/// The indices of a loop of the program that `bench` makes.
+pub const SIZE: Numbers = Numbers {
+    default: 1000,
+    least: 1,
+    most: 100000,
+};
+
+/// The seed of that program.
+pub const SEED: Numbers = Numbers {
+    default: 1,
+    least: 0,
+    most: u64::MAX,
+};
+
+fn has_only_digits(text: &str) -> bool
+    ensures { result ≡ list_all is_ascii_digit text.now }
+{
+    text.bytes().all(|byte| byte.is_ascii_digit())
+}
+
+/// Whether the text is one to twenty decimal digits and nothing else.
+fn is_numeral(text: &str) -> bool
+    ensures { result ≡ spec.is_numeral text.now }
+{
+    let len = text.len();
+    1 <= len && len <= 20 && has_only_digits(text)
+}
+
+/// The number that the text spells, if it is a numeral of one of these numbers.
+pub fn number_in(text: &str, numbers: Numbers) -> Option<u64>
+    ensures { result ≡ spec.number_in numbers text.now }
+{
+    if !is_numeral(text) {
+        return None;
+    }
+    let Ok(value) = text.parse::<u64>() else {
+        return None;
+    };
+    numbers.contains(value).then_some(value)
+}

@@ -1,0 +1,17 @@
+pub mod Cutting
+pub mod Numerals
+pub mod NameBytes
+pub mod Wording
+pub mod Arguments
+pub mod Options
+pub mod Tails
+pub mod Spelled
+pub mod Starting
+pub mod Calling
+pub mod Acting
+pub mod LineBytes
+pub mod Readings
+pub mod Trails
+pub mod Counts
+pub mod WrittenReads
+pub mod Examples

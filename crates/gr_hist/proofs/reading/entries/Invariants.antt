@@ -1,0 +1,13 @@
+use Rattle.std.proofs.Common.{◌≤◌, ◌+◌, length}
+use Rattle.gr_hist.specs.Grammar.{Lines, ReadsLines}
+use Rattle.gr_hist.proofs.Readings.{after}
+use Rattle.gr_hist.proofs.reading.entries.Given as goal
+
+abbrev pub invariant-each : goal.invariant-each
+invariant-each l = record {
+  place : l.line + length l.rest ≤ length l.fn.text + 2;
+  reads : (r : Lines) → ReadsLines l.line l.rest r → ReadsLines 2 l.fn.text (after l.entries r);
+}
+
+abbrev pub decreases-each : goal.decreases-each
+decreases-each l = length l.rest

@@ -1,0 +1,58 @@
+//! The first line of a history text.
+ghost use Rattle.std.specs.Prelude.{map};
+ghost use Rattle.gr_hist.specs.Lines.{header_of, limits_of, sizes_of};
+ghost use Rattle.gr_hist.specs.Reading.{Gives};
+
+use crate::fields::{LineError, is_text, number};
+use gr_lang::action::MAX_CORES;
+
+/// The greatest limit of steps: 2^40.
+const MAX_STEPS: u64 = 1 << 40;
+
+/// The numbers of cores and of steps, within their limits.
+fn limits(cores: u64, steps: u64) -> Result<(u64, u64), LineError>
+    ensures { Gives (limits_of cores steps) result }
+{
+    let fits = 1 <= cores && cores <= MAX_CORES && 1 <= steps && steps <= MAX_STEPS;
+    if !fits {
+        return Err(LineError::Bad);
+    }
+    Ok((cores, steps))
+}
+
+/// What stands behind `history 1 cores`.
+fn sizes(parts: &[&[u8]]) -> Result<(u64, u64), LineError>
+    ensures { Gives (sizes_of (map (λ x. x.now) parts.now)) result }
+{
+    match parts {
+        [cores, sign, steps] => {
+            let has_steps = is_text(*sign, "steps");
+            if !has_steps {
+                return Err(LineError::Bad);
+            }
+            let cores = number(*cores)?;
+            let steps = number(*steps)?;
+            let found = limits(cores, steps)?;
+            Ok(found)
+        }
+        [] | [_] | [_, _] | [_, _, _, _, ..] => Err(LineError::Bad),
+    }
+}
+
+/// The numbers of cores and of steps of a first line with these fields.
+pub fn header(parts: &[&[u8]]) -> Result<(u64, u64), LineError>
+    ensures { Gives (header_of (map (λ x. x.now) parts.now)) result }
+{
+    match parts {
+        [first, version, sign, rest @ ..] => {
+            let is_first =
+                is_text(*first, "history") && is_text(*version, "1") && is_text(*sign, "cores");
+            if !is_first {
+                return Err(LineError::Bad);
+            }
+            let found = sizes(rest)?;
+            Ok(found)
+        }
+        [] | [_] | [_, _] => Err(LineError::Bad),
+    }
+}

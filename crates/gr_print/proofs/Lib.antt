@@ -1,0 +1,17 @@
+pub mod Apart
+pub mod Exactly
+pub mod Fronts
+pub mod Inductions
+pub mod Layouts
+pub mod Placeless
+pub mod PrintsExprs
+pub mod PrintsItems
+pub mod PrintsLists
+pub mod PrintsStmts
+pub mod Respelled
+pub mod Samenesses
+pub mod Seen
+pub mod Spellings
+pub mod Subsequences
+pub mod Texts
+pub mod TextsRead

@@ -1,0 +1,9 @@
+use Rattle.std.proofs.Common.{rules, arith}
+use Rattle.std.proofs.lemmas.Grind.{common_steps}
+use Rattle.gr_print.proofs.Texts.{text_started}
+use Rattle.gr_print.proofs.statements.write_started.Goals as goal
+
+pub returns : goal.returns
+returns c =
+    let parts = text_started c.args.target.now c.args.values.now in
+    first_of (search rules, grind (arith, common_steps))

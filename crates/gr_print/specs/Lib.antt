@@ -1,0 +1,4 @@
+pub mod Unplaced
+pub mod Pieces
+pub mod Layout
+pub mod Printed

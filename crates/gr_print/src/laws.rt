@@ -1,0 +1,17 @@
+//! Which programs the contract of printing speaks of, and which texts it compares with.
+
+ghost use Rattle.std.specs.Prelude.{◌≡◌, ℕ, List, Ok};
+ghost use Rattle.gr_lang.specs.declared.syntax.Program.{Program};
+ghost use Rattle.gr_text.specs.Text.{Reads};
+ghost use Rattle.gr_text.specs.declared.token.Token.{Token};
+ghost use Rattle.gr_parse.specs.Tok.{toks};
+ghost use Rattle.gr_parse.specs.Grammar.{IsProgramOf};
+ghost use Rattle.gr_print.specs.Printed.{IsSpelled, IsSpelling};
+ghost use Rattle.gr_print.specs.Unplaced.{SameButForPlaces};
+
+/// States that the tokens of each text that is read as a program, but for places, are a spelling of the program, and
+/// that each program that a text is read as is spelled.
+pub fn texts_are_spellings()
+    ensures spelling { (text : List ℕ) (tokens : List Token) (read program : Program) → Reads text (Ok tokens) → (of : IsProgramOf text tokens read) → SameButForPlaces read program → IsSpelling (toks text of.front) program }
+    ensures spelled { (text : List ℕ) (tokens : List Token) (program : Program) → Reads text (Ok tokens) → IsProgramOf text tokens program → IsSpelled program }
+{}

@@ -1,0 +1,7 @@
+pub mod Numberings
+pub mod Verdicts
+pub mod Progress
+pub mod Positions
+pub mod Uniques
+pub mod RoundTrips
+pub mod Dividing

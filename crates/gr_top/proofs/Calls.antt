@@ -1,0 +1,129 @@
+-- What the call tells, from the answer that was made and what came of it.
+use Rattle.std.proofs.Common.{◌≡◌, ◌≢◌, ℕ, ◌<◌, ◌≤◌, ◌^◌, List, Bool, true, false, Option, Some, None, refl, sym, ap, ◌∙◌, subst, arith, length, is_some, ◌⊎◌, inl, inr}
+use Rattle.std.specs.Prelude.{IfSome, ◌++◌, [], String, if◌then◌else◌}
+use Rattle.std.specs.declared.alloc.Global.{Global}
+use Rattle.std.specs.Io.KnownBytes.{Appends}
+use Rattle.gr_lang.specs.declared.syntax.Program.{Program}
+use Rattle.gr_lang.specs.declared.refusal.Kind.{Kind}
+use Rattle.gr_lang.specs.declared.refusal.Fault.{Fault}
+use Rattle.gr_lang.specs.declared.action.Entry.{Entry}
+use Rattle.gr_lang.specs.Faults.{fault}
+use Rattle.gr_lang.specs.Histories.{legal, complete}
+use Rattle.gr_cli.specs.declared.settings.Options.{Options}
+use Rattle.gr_cli.specs.declared.settings.Command.{Command}
+use Rattle.gr_cli.specs.declared.settings.Command.TheVariants.{Run, Check, Replay, Bench}
+use Rattle.gr_hist.specs.declared.text.HistoryText.{HistoryText}
+use Rattle.gr_replay.specs.Division.{program_part, history_part}
+use Rattle.gr_replay.specs.Judged.{Verdict, Judged}
+use Rattle.gr_replay.specs.Judged as verdict
+use Rattle.gr_top.specs.Commands.{asked, is_on_text, is_replay, is_read, limit_of, is_run}
+use Rattle.gr_top.specs.Due.{Reading, accepted, refused, Replayed, unread, bad_line, judged, Due, due_usage, due_too_long, due_read, due_refused, due_accepted, due_run, due_of_run, due_trapped, due_replayed, due_judged, told, followed, not_built, status_of, Came}
+use Rattle.gr_top.specs.Readings.{ReadsAs, ReplaysAs, IsDue, Answered, IsRunOf, IsWorldOf, Refusing}
+use Rattle.gr_top.specs.Texts.{usage_text, too_long_text, prints, first_trap}
+use Rattle.gr_top.specs.Views.{made}
+use Rattle.gr_top.specs.declared.answer.Answer.{Answer}
+use Rattle.gr_top.specs.declared.answer.Refusal.{Refusal}
+use Rattle.gr_top.specs.declared.answer.Refusal.TheVariants as r
+use Rattle.gr_top.specs.declared.answer.WorldEnd.{WorldEnd}
+use Rattle.gr_top.specs.declared.texts.TrapAt.{TrapAt}
+use Rattle.gr_hist.specs.Grammar.{ReadsOnce}
+use Rattle.gr_replay.specs.Laws.{JudgedOnce}
+use Rattle.gr_top.proofs.Dues.{answered, own}
+use Rattle.gr_top.proofs.Told.{IsRunStatus, usage_told, too_long_told, refused_told, entry_told, line_told}
+use Rattle.gr_top.proofs.Exact.{due_check, due_run_status, due_refusal, due_legal}
+use Rattle.gr_top.proofs.Headline.{Ended, headline}
+
+-- A status that isn't 5 is no fault of the sink.
+no_fault : (refusal : Refusal) (n : ℕ) → status_of refusal ≡ n → n ≢ 5 → (written : ℕ) → refusal ≢ r.WriteFault written
+no_fault refusal n s h written e = h (sym s ∙ ap status_of e)
+
+module _ (words : List (String Global)) (a : Answer) (before now : Option (List ℕ)) (refusal : Refusal) (world : Option WorldEnd) (kept : world ≡ a.world) (came : Came (made a) before now refusal world) where
+  here : (bytes : List ℕ) → IsDue words bytes a.world (made a) → IsDue words bytes world (made a)
+  here bytes h = subst (λ (w : Option WorldEnd). IsDue words bytes w (made a)) (sym kept) h
+
+  pub answer_told : (bytes : List ℕ) → refusal ≢ r.ReadFault → refusal ≢ r.Memory → IsDue words bytes a.world (made a) → Answered words bytes before now refusal world
+  answer_told bytes x y h = answered words bytes before now refusal world (made a) (here bytes h) came x y
+
+  mine : (n : ℕ) → status_of refusal ≡ n → n ≢ 5 → (refusal ≡ a.refusal) × Appends before now a.text.items × (is_some world ≡ is_some a.world)
+  mine n s h = own (made a) before now refusal world came (no_fault refusal n s h)
+
+  pub usage_of : (bytes : List ℕ) → IsDue words bytes a.world (made a) → refusal ≡ r.Usage → asked words ≡ None
+  usage_of bytes h e = usage_told words bytes world (made a) (here bytes h) (sym (mine 2 (ap status_of e) (λ k. omega (arith, k))).0 ∙ e)
+
+  pub too_long_of : (bytes : List ℕ) → IsDue words bytes a.world (made a) → refusal ≡ r.TooLong → IfSome (asked words) (λ o. limit_of o.command < length bytes)
+  too_long_of bytes h e = too_long_told words bytes world (made a) (here bytes h) (sym (mine 8 (ap status_of e) (λ k. omega (arith, k))).0 ∙ e)
+
+  pub refused_of : (bytes : List ℕ) → IsDue words bytes a.world (made a) → (kind : Kind) (line column : ℕ) → refusal ≡ r.Refused kind line column
+      → Refusing bytes (asked words) (fault kind (record { line = line; column = column }))
+  refused_of bytes h kind line column e =
+      refused_told words bytes world (made a) (here bytes h) kind line column (sym (mine 1 (ap status_of e) (λ k. omega (arith, k))).0 ∙ e)
+
+  pub entry_of : (bytes : List ℕ) → IsDue words bytes a.world (made a) → (entry : ℕ) → refusal ≡ r.NotLegal entry
+      → ReplaysAs (program_part bytes) (history_part bytes) (judged (verdict.not_legal entry))
+  entry_of bytes h entry e = entry_told words bytes world (made a) (here bytes h) entry (sym (mine 9 (ap status_of e) (λ k. omega (arith, k))).0 ∙ e)
+
+  pub line_of : (bytes : List ℕ) → IsDue words bytes a.world (made a) → (line : ℕ) → refusal ≡ r.BadLine line
+      → ReplaysAs (program_part bytes) (history_part bytes) (bad_line line)
+  line_of bytes h line e = line_told words bytes world (made a) (here bytes h) line (sym (mine 10 (ap status_of e) (λ k. omega (arith, k))).0 ∙ e)
+
+  pub headline_of : (bytes : List ℕ) (o : Options) → IsDue words bytes a.world (made a) → IsWorldOf words bytes a.world → status_of refusal ≡ 0 → asked words ≡ Some o → o.command ≡ Run
+      → (p : Program) × (w : WorldEnd) × ReadsAs bytes (accepted p) × (world ≡ Some w) × (legal p o.cores o.steps w.history ≡ true) × (complete p o.cores o.steps w.history ≡ true)
+      × Appends before now (prints w.history ++ told o.history p o.cores o.steps w.history)
+  headline_of bytes o h runs s some c =
+      let x = mine 0 s (λ k. omega (arith, k)) in
+      let e = headline words bytes world (made a) o (here bytes h) some c (subst (IsWorldOf words bytes) (sym kept) runs) x.2 (ap status_of (sym x.0) ∙ s) in
+      (e.program, e.end, e.reads, e.kept, e.legal, e.complete, subst (Appends before now) e.text x.1)
+
+  -- Where the sink didn't fail, the refusal is the answer's own.
+  unless : ((written : ℕ) → refusal ≢ r.WriteFault written) → refusal ≡ a.refusal
+  unless h = (own (made a) before now refusal world came h).0
+
+  module _ (lines_once : ReadsOnce) (judges_once : JudgedOnce) where
+    pub check_of : (bytes : List ℕ) (o : Options) (p : Program) → IsDue words bytes a.world (made a) → length bytes ≤ 2 ^ 20 → ReadsAs bytes (accepted p) → asked words ≡ Some o → o.command ≡ Check
+        → ((written : ℕ) → refusal ≢ r.WriteFault written) → status_of refusal ≡ 0
+    check_of bytes o p h few reads some c n = ap status_of (unless n) ∙ due_check lines_once judges_once words bytes world (made a) o p (here bytes h) few reads some c
+
+    pub run_of : (bytes : List ℕ) (o : Options) (p : Program) → IsDue words bytes a.world (made a) → length bytes ≤ 2 ^ 20 → ReadsAs bytes (accepted p) → asked words ≡ Some o → o.command ≡ Run → is_run o p ≡ true
+        → ((written : ℕ) → refusal ≢ r.WriteFault written) → (status_of refusal ≡ 0) ⊎ (status_of refusal ≡ 3)
+    run_of bytes o p h few reads some c built n =
+        subst (λ (x : Refusal). (status_of x ≡ 0) ⊎ (status_of x ≡ 3)) (sym (unless n)) (due_run_status lines_once judges_once words bytes world (made a) o p (here bytes h) few reads some c built)
+
+    pub replay_of : (bytes : List ℕ) (o : Options) (b : Bool) → IsDue words bytes a.world (made a) → length bytes ≤ 2 ^ 26
+        → ReplaysAs (program_part bytes) (history_part bytes) (judged (verdict.legal b)) → asked words ≡ Some o → o.command ≡ Replay
+        → ((written : ℕ) → refusal ≢ r.WriteFault written) → status_of refusal ≡ 0
+    replay_of bytes o b h few found some c n = ap status_of (unless n) ∙ due_legal lines_once judges_once words bytes world (made a) o b (here bytes h) few found some c
+
+    pub refuse_of : (bytes : List ℕ) (o : Options) (f : Fault) → IsDue words bytes a.world (made a) → length bytes ≤ 2 ^ 20 → ReadsAs bytes (refused f) → asked words ≡ Some o → is_on_text o.command ≡ true
+        → ((written : ℕ) → refusal ≢ r.WriteFault written) → refusal ≡ r.Refused f.kind f.at.line f.at.column
+    refuse_of bytes o f h few reads some on n = unless n ∙ ap (λ (d : Due). d.refusal) (due_refusal lines_once judges_once words bytes world (made a) o f (here bytes h) few reads some on)
+
+pub either_of : (status n : ℕ) → status ≡ n → (n ≡ 0) ⊎ (n ≡ 3) → (status ≡ 0) ⊎ ((status ≡ 3) ⊎ (status ≡ 6))
+either_of status n e (inl h) = inl (e ∙ h)
+either_of status n e (inr h) = inr (inl (e ∙ h))
+
+-- The completeness clauses, for a source that may tell what it held.
+pub if_checks : (words : List (String Global)) (s : Option (List ℕ)) (Q R X : Type 0)
+    → ((bytes : List ℕ) → s ≡ Some bytes → (o : Options) (p : Program) → length bytes ≤ 2 ^ 20 → ReadsAs bytes (accepted p) → asked words ≡ Some o → o.command ≡ Check → Q → R → X)
+    → IfSome s (λ bytes. (o : Options) (p : Program) → length bytes ≤ 2 ^ 20 → ReadsAs bytes (accepted p) → asked words ≡ Some o → o.command ≡ Check → Q → R → X)
+if_checks words None Q R X h = tt
+if_checks words (Some bytes) Q R X h = h bytes refl
+
+pub if_runs : (words : List (String Global)) (s : Option (List ℕ)) (Q R X : Type 0)
+    → ((bytes : List ℕ) → s ≡ Some bytes → (o : Options) (p : Program) → length bytes ≤ 2 ^ 20 → ReadsAs bytes (accepted p) → asked words ≡ Some o → o.command ≡ Run → is_run o p ≡ true → Q → R → X)
+    → IfSome s (λ bytes. (o : Options) (p : Program) → length bytes ≤ 2 ^ 20 → ReadsAs bytes (accepted p) → asked words ≡ Some o → o.command ≡ Run → is_run o p ≡ true → Q → R → X)
+if_runs words None Q R X h = tt
+if_runs words (Some bytes) Q R X h = h bytes refl
+
+pub if_replays : (words : List (String Global)) (s : Option (List ℕ)) (Q R X : Type 0)
+    → ((bytes : List ℕ) → s ≡ Some bytes → (o : Options) (b : Bool) → length bytes ≤ 2 ^ 26 → ReplaysAs (program_part bytes) (history_part bytes) (judged (verdict.legal b)) → asked words ≡ Some o
+        → o.command ≡ Replay → Q → R → X)
+    → IfSome s (λ bytes. (o : Options) (b : Bool) → length bytes ≤ 2 ^ 26 → ReplaysAs (program_part bytes) (history_part bytes) (judged (verdict.legal b)) → asked words ≡ Some o
+        → o.command ≡ Replay → Q → R → X)
+if_replays words None Q R X h = tt
+if_replays words (Some bytes) Q R X h = h bytes refl
+
+pub if_refuses : (words : List (String Global)) (s : Option (List ℕ)) (Q R : Type 0) (X : Fault → Type 0)
+    → ((bytes : List ℕ) → s ≡ Some bytes → (o : Options) (f : Fault) → length bytes ≤ 2 ^ 20 → ReadsAs bytes (refused f) → asked words ≡ Some o → is_on_text o.command ≡ true → Q → R → X f)
+    → IfSome s (λ bytes. (o : Options) (f : Fault) → length bytes ≤ 2 ^ 20 → ReadsAs bytes (refused f) → asked words ≡ Some o → is_on_text o.command ≡ true → Q → R → X f)
+if_refuses words None Q R X h = tt
+if_refuses words (Some bytes) Q R X h = h bytes refl

@@ -1,0 +1,163 @@
+-- One answer is due, and which one for an accepted text, a refused one and a legal history.
+use Rattle.std.proofs.Common.{◌≡◌, ◌≢◌, ℕ, ◌<◌, ◌≤◌, ◌^◌, List, Bool, true, false, Option, Some, None, refl, sym, ap, ◌∙◌, subst, arith, length, is_some, ◌⊎◌, inl, inr}
+use Rattle.std.specs.Prelude.{IfSome, ◌++◌, [], String, if◌then◌else◌}
+use Rattle.std.specs.declared.alloc.Global.{Global}
+use Rattle.std.specs.Io.KnownBytes.{Appends}
+use Rattle.gr_lang.specs.declared.syntax.Program.{Program}
+use Rattle.gr_lang.specs.declared.refusal.Kind.{Kind}
+use Rattle.gr_lang.specs.declared.refusal.Fault.{Fault}
+use Rattle.gr_lang.specs.declared.action.Entry.{Entry}
+use Rattle.gr_lang.specs.Faults.{fault}
+use Rattle.gr_lang.specs.Histories.{legal, complete}
+use Rattle.gr_cli.specs.declared.settings.Options.{Options}
+use Rattle.gr_cli.specs.declared.settings.Command.{Command}
+use Rattle.gr_cli.specs.declared.settings.Command.TheVariants.{Run, Check, Replay, Bench}
+use Rattle.gr_hist.specs.declared.text.HistoryText.{HistoryText}
+use Rattle.gr_replay.specs.Division.{program_part, history_part}
+use Rattle.gr_replay.specs.Judged.{Verdict, Judged}
+use Rattle.gr_replay.specs.Judged as verdict
+use Rattle.gr_top.specs.Commands.{asked, is_on_text, is_replay, is_read, limit_of, is_run}
+use Rattle.gr_top.specs.Due.{Reading, accepted, refused, Replayed, unread, bad_line, judged, Due, due_usage, due_too_long, due_read, due_refused, due_accepted, due_run, due_of_run, due_trapped, due_replayed, due_judged, told, followed, not_built, status_of, Came}
+use Rattle.gr_top.specs.Readings.{ReadsAs, ReplaysAs, IsDue, Answered, IsRunOf, IsWorldOf, Refusing}
+use Rattle.gr_top.specs.Texts.{usage_text, too_long_text, prints, first_trap}
+use Rattle.gr_top.specs.Views.{made}
+use Rattle.gr_top.specs.declared.answer.Answer.{Answer}
+use Rattle.gr_top.specs.declared.answer.Refusal.{Refusal}
+use Rattle.gr_top.specs.declared.answer.Refusal.TheVariants as r
+use Rattle.gr_top.specs.declared.answer.WorldEnd.{WorldEnd}
+use Rattle.gr_top.specs.declared.texts.TrapAt.{TrapAt}
+use Rattle.gr_hist.specs.Grammar.{ReadsOnce, ReadsText}
+use Rattle.gr_replay.specs.Laws.{JudgedOnce}
+use Rattle.std.proofs.Common.{Ok, Err}
+use Rattle.gr_top.proofs.Once.{once}
+use Rattle.gr_top.proofs.Told.{IsRunStatus, run_status}
+
+same_options : (words : List (String Global)) (o q : Options) → asked words ≡ Some o → asked words ≡ Some q → o ≡ q
+same_options words o q x y = let k : Some o ≡ Some q = sym x ∙ y in cc
+
+pub some_options : (words : List (String Global)) (o : Options) → asked words ≡ Some o → asked words ≡ None → ⊥
+some_options words o e none = let k : Some o ≡ None = sym e ∙ none in cc
+
+-- The kinds of commands lie apart.
+apart : (words : List (String Global)) (o q : Options) (f : Command → Bool) → asked words ≡ Some o → asked words ≡ Some q → f o.command ≡ true → f q.command ≡ false → ⊥
+apart words o q f x y h k = let e : true ≡ false = sym h ∙ ap (λ (z : Options). f z.command) (same_options words o q x y) ∙ k in cc
+
+text_is_read : (c : Command) → is_on_text c ≡ true → is_read c ≡ true
+text_is_read Run e = refl
+text_is_read Check e = refl
+text_is_read Replay e = refl
+text_is_read Bench e = cc
+
+replay_is_read : (c : Command) → is_replay c ≡ true → is_read c ≡ true
+replay_is_read Run e = refl
+replay_is_read Check e = refl
+replay_is_read Replay e = refl
+replay_is_read Bench e = cc
+
+replay_is_no_text : (c : Command) → is_replay c ≡ true → is_on_text c ≡ false
+replay_is_no_text Replay e = refl
+replay_is_no_text _ e = cc
+
+same_program : (text : List ℕ) (p q : Program) → ReadsAs text (accepted p) → ReadsAs text (accepted q) → p ≡ q
+same_program text p q h k = let e : accepted p ≡ accepted q = once text (accepted p) (accepted q) h k in cc
+
+no_reading : (text : List ℕ) (p : Program) (f : Fault) → ReadsAs text (accepted p) → ReadsAs text (refused f) → ⊥
+no_reading text p f h k = let e : accepted p ≡ refused f = once text (accepted p) (refused f) h k in cc
+
+module _ (lines_once : ReadsOnce) (judges_once : JudgedOnce) where
+  pub replays_once : (text history : List ℕ) (x y : Replayed) → ReplaysAs text history x → ReplaysAs text history y → x ≡ y
+  replays_once text history _ _ (ReplaysAs.of_fault {f} h) (ReplaysAs.of_fault {f = g} k) = let e : refused f ≡ refused g = once text (refused f) (refused g) h k in let i : f ≡ g = cc in ap unread i
+  replays_once text history _ _ (ReplaysAs.of_fault {f} h) (ReplaysAs.of_line {p} k l) = absurd (no_reading text p f k h)
+  replays_once text history _ _ (ReplaysAs.of_fault {f} h) (ReplaysAs.of_history {p} k l j) = absurd (no_reading text p f k h)
+  replays_once text history _ _ (ReplaysAs.of_line {p} h l) (ReplaysAs.of_fault {f} k) = absurd (no_reading text p f h k)
+  replays_once text history _ _ (ReplaysAs.of_line {line = m} h l) (ReplaysAs.of_line {line = n} k i) =
+      let e : Err m ≡ Err n = lines_once history (Err m) (Err n) l i in let same : m ≡ n = cc in ap bad_line same
+  replays_once text history _ _ (ReplaysAs.of_line {line = m} h l) (ReplaysAs.of_history {h = t} k i j) = let e : Err m ≡ Ok t = lines_once history (Err m) (Ok t) l i in absurd (apart_results e)
+    where
+      apart_results : Err m ≡ Ok t → ⊥
+      apart_results e = cc
+  replays_once text history _ _ (ReplaysAs.of_history {p} h l j) (ReplaysAs.of_fault {f} k) = absurd (no_reading text p f h k)
+  replays_once text history _ _ (ReplaysAs.of_history {h = t} h l j) (ReplaysAs.of_line {line = n} k i) = let e : Ok t ≡ Err n = lines_once history (Ok t) (Err n) l i in absurd (apart_results e)
+    where
+      apart_results : Ok t ≡ Err n → ⊥
+      apart_results e = cc
+  replays_once text history _ _ (ReplaysAs.of_history {p} {h = t} {v} h l j) (ReplaysAs.of_history {p = q} {h = u} {v = w} k i m) =
+      let e : Ok t ≡ Ok u = lines_once history (Ok t) (Ok u) l i in
+      let same : t ≡ u = cc in
+      ap judged (judges_once p t.cores t.steps t.lines v w j
+      (subst (λ (x : HistoryText). Judged p x.cores x.steps x.lines w) (sym same) (subst (λ (x : Program). Judged x u.cores u.steps u.lines w) (sym (same_program text p q h k)) m)))
+
+  pub due_once : (words : List (String Global)) (bytes : List ℕ) (world : Option WorldEnd) (d e : Due) → IsDue words bytes world d → IsDue words bytes world e → d ≡ e
+  due_once words bytes world _ _ (IsDue.usage h) (IsDue.usage k) = refl
+  due_once words bytes world _ _ (IsDue.usage h) (IsDue.bench o some none) = absurd (some_options words o some h)
+  due_once words bytes world _ _ (IsDue.usage h) (IsDue.too_long o some reads more) = absurd (some_options words o some h)
+  due_once words bytes world _ _ (IsDue.usage h) (IsDue.read o some on few k) = absurd (some_options words o some h)
+  due_once words bytes world _ _ (IsDue.usage h) (IsDue.replayed o some on few k) = absurd (some_options words o some h)
+  due_once words bytes world _ _ (IsDue.bench o some none) (IsDue.usage k) = absurd (some_options words o some k)
+  due_once words bytes world _ _ (IsDue.bench o some none) (IsDue.bench q also nor) = refl
+  due_once words bytes world _ _ (IsDue.bench o some none) (IsDue.too_long q also reads more) = absurd (apart words q o is_read also some reads none)
+  due_once words bytes world _ _ (IsDue.bench o some none) (IsDue.read q also on few k) = absurd (apart words q o is_read also some (text_is_read q.command on) none)
+  due_once words bytes world _ _ (IsDue.bench o some none) (IsDue.replayed q also on few k) = absurd (apart words q o is_read also some (replay_is_read q.command on) none)
+  due_once words bytes world _ _ (IsDue.too_long o some reads more) (IsDue.usage k) = absurd (some_options words o some k)
+  due_once words bytes world _ _ (IsDue.too_long o some reads more) (IsDue.bench q also none) = absurd (apart words o q is_read some also reads none)
+  due_once words bytes world _ _ (IsDue.too_long o some reads more) (IsDue.too_long q also sees too) = refl
+  due_once words bytes world _ _ (IsDue.too_long o some reads more) (IsDue.read q also on few k) =
+      absurd (omega (arith, more, few, ap (λ (z : Options). limit_of z.command) (same_options words o q some also)))
+  due_once words bytes world _ _ (IsDue.too_long o some reads more) (IsDue.replayed q also on few k) =
+      absurd (omega (arith, more, few, ap (λ (z : Options). limit_of z.command) (same_options words o q some also)))
+  due_once words bytes world _ _ (IsDue.read o some on few h) (IsDue.usage k) = absurd (some_options words o some k)
+  due_once words bytes world _ _ (IsDue.read o some on few h) (IsDue.bench q also none) = absurd (apart words o q is_read some also (text_is_read o.command on) none)
+  due_once words bytes world _ _ (IsDue.read o some on few h) (IsDue.too_long q also reads more) =
+      absurd (omega (arith, more, few, ap (λ (z : Options). limit_of z.command) (same_options words o q some also)))
+  due_once words bytes world _ _ (IsDue.read {reading = x} o some on few h) (IsDue.read {reading = y} q also off less k) =
+      ap (λ (z : Options). due_read z x world) (same_options words o q some also) ∙ ap (λ (z : Reading). due_read q z world) (once bytes x y h k)
+  due_once words bytes world _ _ (IsDue.read o some on few h) (IsDue.replayed q also off less k) = absurd (apart words o q is_on_text some also on (replay_is_no_text q.command off))
+  due_once words bytes world _ _ (IsDue.replayed o some on few h) (IsDue.usage k) = absurd (some_options words o some k)
+  due_once words bytes world _ _ (IsDue.replayed o some on few h) (IsDue.bench q also none) = absurd (apart words o q is_read some also (replay_is_read o.command on) none)
+  due_once words bytes world _ _ (IsDue.replayed o some on few h) (IsDue.too_long q also reads more) =
+      absurd (omega (arith, more, few, ap (λ (z : Options). limit_of z.command) (same_options words o q some also)))
+  due_once words bytes world _ _ (IsDue.replayed o some on few h) (IsDue.read q also off less k) = absurd (apart words q o is_on_text also some off (replay_is_no_text o.command on))
+  due_once words bytes world _ _ (IsDue.replayed {r = x} o some on few h) (IsDue.replayed {r = y} q also off less k) =
+      ap due_replayed (replays_once (program_part bytes) (history_part bytes) x y h k)
+
+  on_text : (c d : Command) → c ≡ d → is_on_text d ≡ true → is_on_text c ≡ true
+  on_text c d e h = ap is_on_text e ∙ h
+
+  text_limit : (c : Command) → is_on_text c ≡ true → limit_of c ≡ 2 ^ 20
+  text_limit Run e = refl
+  text_limit Check e = refl
+  text_limit Replay e = cc
+  text_limit Bench e = refl
+
+  within_limit : (o : Options) (n : ℕ) → is_on_text o.command ≡ true → n ≤ 2 ^ 20 → n ≤ limit_of o.command
+  within_limit o n on few = subst (λ (m : ℕ). n ≤ m) (sym (text_limit o.command on)) few
+
+  -- Of an accepted text it is the answer to its program.
+  due_of_reading : (words : List (String Global)) (bytes : List ℕ) (world : Option WorldEnd) (d : Due) (o : Options) (reading : Reading)
+      → IsDue words bytes world d → length bytes ≤ 2 ^ 20 → ReadsAs bytes reading → asked words ≡ Some o → is_on_text o.command ≡ true → d ≡ due_read o reading world
+  due_of_reading words bytes world d o reading h few reads some on = due_once words bytes world d (due_read o reading world) h (IsDue.read o some on (within_limit o (length bytes) on few) reads)
+
+  pub due_check : (words : List (String Global)) (bytes : List ℕ) (world : Option WorldEnd) (d : Due) (o : Options) (p : Program)
+      → IsDue words bytes world d → length bytes ≤ 2 ^ 20 → ReadsAs bytes (accepted p) → asked words ≡ Some o → o.command ≡ Check → status_of d.refusal ≡ 0
+  due_check words bytes world d o p h few reads some c =
+      ap (λ (x : Due). status_of x.refusal) (due_of_reading words bytes world d o (accepted p) h few reads some (on_text o.command Check c refl) ∙ ap (λ (x : Command). due_accepted x o p world) c)
+
+  pub due_run_status : (words : List (String Global)) (bytes : List ℕ) (world : Option WorldEnd) (d : Due) (o : Options) (p : Program)
+      → IsDue words bytes world d → length bytes ≤ 2 ^ 20 → ReadsAs bytes (accepted p) → asked words ≡ Some o → o.command ≡ Run → is_run o p ≡ true → IsRunStatus d
+  due_run_status words bytes world d o p h few reads some c built =
+      let e : d ≡ due_run o p world = due_of_reading words bytes world d o (accepted p) h few reads some (on_text o.command Run c refl) ∙ ap (λ (x : Command). due_accepted x o p world) c
+      ∙ ap (λ (b : Bool). if b then due_run o p world else due_refused not_built) built in
+      subst IsRunStatus (sym e) (run_status o p world)
+
+  -- A refused text is refused.
+  pub due_refusal : (words : List (String Global)) (bytes : List ℕ) (world : Option WorldEnd) (d : Due) (o : Options) (f : Fault)
+      → IsDue words bytes world d → length bytes ≤ 2 ^ 20 → ReadsAs bytes (refused f) → asked words ≡ Some o → is_on_text o.command ≡ true → d ≡ due_refused f
+  due_refusal words bytes world d o f h few reads some on = due_of_reading words bytes world d o (refused f) h few reads some on
+
+  -- A legal history is said to be legal.
+  pub due_legal : (words : List (String Global)) (bytes : List ℕ) (world : Option WorldEnd) (d : Due) (o : Options) (b : Bool)
+      → IsDue words bytes world d → length bytes ≤ 2 ^ 26 → ReplaysAs (program_part bytes) (history_part bytes) (judged (verdict.legal b)) → asked words ≡ Some o → o.command ≡ Replay
+      → status_of d.refusal ≡ 0
+  due_legal words bytes world d o b h few found some c =
+      ap (λ (x : Due). status_of x.refusal) (due_once words bytes world d (due_judged (verdict.legal b)) h
+      (IsDue.replayed o some (ap is_replay c) (subst (λ (m : Command). length bytes ≤ limit_of m) (sym c) few) found))
