@@ -46,9 +46,10 @@ with_found : (task : TaskId) (object : Bytes) (op : Operation) (reducer : Option
 with_found task object op reducer ps e is name small takes h =
     let t = map_some (λ (t : List ℕ × List ℕ). entry.Call task object op reducer t.0 t.1) (tail_of op ps) e h in
     let f = tail_found op ps t.0 t.1 in
-    subst (IsSpelled (id_bytes task ∷ object ∷ operation_word op ∷ (reducer_part reducer ++ ps))) t.2
-    (record { numbers = (is, f.numbers_fit, f.reply_fits); names = (name, small); shape = (takes, f.arguments, f.results) },
-     (λ j. id_bytes task ∷ object ∷ operation_word op ∷ (reducer_part reducer ++ f.spelled j)))
+    subst (IsSpelled (id_bytes task ∷ object ∷ operation_word op ∷ (reducer_part reducer ++ ps))) t.2 (
+      record { numbers = (is, f.numbers_fit, f.reply_fits); names = (name, small); shape = (takes, f.arguments, f.results) },
+      (λ j. id_bytes task ∷ object ∷ operation_word op ∷ (reducer_part reducer ++ f.spelled j)),
+    )
 
 reducing_found : (task : TaskId) (object : Bytes) (op : Operation) (ps : List Bytes) (e : NamedEntry) → IsId task → is_object_name object ≡ true → takes_reducer op ≡ true
     → reducing_of task object op ps ≡ Some e → IsSpelled (id_bytes task ∷ object ∷ operation_word op ∷ ps) e
@@ -66,5 +67,5 @@ call_found task bytes op ps e is h =
     let n = object_found bytes object.0 object.1 in
     subst (λ (x : Bytes). IsSpelled (id_bytes task ∷ x ∷ operation_word op ∷ ps) e) (sym n.0)
     (either (takes_reducer op) (reducing_of task object.0 op ps) (call_with task object.0 op None ps) e object.2
-        (λ takes more. reducing_found task object.0 op ps e is n.1 takes more)
-        (λ takes more. with_found task object.0 op None ps e is n.1 tt (sym takes) more))
+    (λ takes more. reducing_found task object.0 op ps e is n.1 takes more)
+    (λ takes more. with_found task object.0 op None ps e is n.1 tt (sym takes) more))
