@@ -75,8 +75,10 @@ const READ: [(&str, &str); 15] = [
     ),
 ];
 
-/// Texts that aren't read, each with its first bad line.
-const BAD: [(&str, u64); 17] = [
+/// Texts, each with its first bad line; 0 where it is read.
+const TEXTS: [(&str, u64); 19] = [
+    ("history 1 cores 16 steps 1099511627776\n", 0),
+    ("history 1 cores 1 steps 1\nover\n", 0),
     ("", 1),
     ("history 1 cores 4 steps 1000000", 1),
     ("history 2 cores 4 steps 1000000\n", 1),
@@ -404,7 +406,7 @@ fn cut_lines_are_bad(rt: HostRuntime) -> Result<(), Fail> {
 #[test]
 fn bad_texts_are_bad_in_their_line(rt: HostRuntime) -> Result<(), Fail> {
     let alloc = rt.alloc();
-    for (text, want) in BAD {
+    for (text, want) in TEXTS {
         assert_eq!(rt; bad_line(alloc, text.as_bytes())?, want, "{text}");
     }
     for line in BAD_LINES {
