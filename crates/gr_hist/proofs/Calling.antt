@@ -1,18 +1,18 @@
 -- The lines of calls, both ways.
-use Rattle.std.proofs.Common.{◌≡◌, ◌∙◌, refl, sym, ap, subst, Bool, true, false, List, [], ◌∷◌, ◌++◌, Option, Some, None, cond, ℕ, map, codes, decimal, option_map, option_and_then, is_some}
-use Rattle.std.specs.Prelude.{All, IfSome, length, ◌<◌}
+use Rattle.std.proofs.Common.{◌≡◌, ◌∙◌, sym, ap, subst, Bool, true, List, [], ◌∷◌, ◌++◌, Option, Some, None, cond, ℕ, map, decimal, option_map, option_and_then, is_some}
+use Rattle.std.specs.Prelude.{IfSome, ◌<◌}
 use Rattle.gr_lang.specs.declared.action.TaskId.{TaskId}
 use Rattle.gr_lang.specs.declared.operation.Operation.{Operation}
-use Rattle.gr_lang.specs.Operations.{argument_count, result_count, takes_reducer, reducer_of}
+use Rattle.gr_lang.specs.Operations.{takes_reducer, reducer_of}
 use Rattle.gr_hist.specs.declared.text.NamedEntry.{NamedEntry}
 use Rattle.gr_hist.specs.declared.text.NamedEntry.TheVariants as entry
 use Rattle.gr_hist.specs.Names.{Bytes, is_object_name}
-use Rattle.gr_hist.specs.Grammar.{IsEntry, IsId, IsWord}
+use Rattle.gr_hist.specs.Grammar.{IsEntry, IsId}
 use Rattle.gr_hist.specs.Reading.{call_of, call_with, object_name_of, reducing_of, tail_of}
-use Rattle.gr_hist.specs.Spelling.{id_bytes, operation_word, parts_of, reducer_part, reply_part}
+use Rattle.gr_hist.specs.Spelling.{id_bytes, operation_word, reducer_part, reply_part}
 use Rattle.gr_hist.proofs.Options.{either, map_some, then_some}
 use Rattle.gr_hist.proofs.Spelled.{IsSpelled, object_found, object_only}
-use Rattle.gr_hist.proofs.Tails.{IsTail, tail_found, tail_only}
+use Rattle.gr_hist.proofs.Tails.{tail_found, tail_only}
 use Rattle.gr_hist.proofs.Wording.{reducer_found, reducer_only}
 
 with_only : (task : TaskId) (object : Bytes) (op : Operation) (reducer : Option ℕ) (numbers reply : List ℕ) → IsEntry (entry.Call task object op reducer numbers reply)

@@ -1,10 +1,10 @@
 -- Lines and headers, both ways: no field has a space, and no line a line feed but the last.
-use Rattle.std.proofs.Common.{◌≡◌, ◌≢◌, ◌∙◌, ◌<◌, ◌≤◌, ◌^◌, ◌+◌, refl, sym, ap, ap₂, subst, ℕ, Bool, true, false, List, [], ◌∷◌, ◌++◌, length, Option, Some, None, Result, Ok, Err, unwrap_or, cond, map, codes, decimal, arith, option_and_then, nat_le}
+use Rattle.std.proofs.Common.{◌≡◌, ◌∙◌, ◌<◌, ◌^◌, refl, sym, ap, subst, ℕ, List, [], ◌∷◌, ◌++◌, length, Option, Some, None, Err, map, codes, decimal, arith, option_and_then, nat_le}
 use Rattle.std.specs.Prelude.{All, IfSome, ◌&&◌}
 use Rattle.std.specs.Str.{bytes_eq}
 use Rattle.std.specs.List.{join_with_byte}
 use Rattle.std.proofs.lemmas.Bool.{leb-true, le-leb}
-use Rattle.std.proofs.lemmas.List.{append_assoc, length-append}
+use Rattle.std.proofs.lemmas.List.{append_assoc}
 use Rattle.std.proofs.lemmas.List.Elements.{All-head, All-tail}
 use Rattle.std.proofs.lemmas.List.Splits.{join_with_byte-slice_split}
 use Rattle.gr_lang.specs.declared.action.TaskId.{TaskId}
@@ -14,7 +14,7 @@ use Rattle.gr_hist.specs.declared.fields.LineError.{LineError}
 use Rattle.gr_hist.specs.declared.fields.LineError.TheVariants as error
 use Rattle.gr_hist.specs.declared.text.NamedEntry.{NamedEntry}
 use Rattle.gr_hist.specs.declared.text.NamedEntry.TheVariants as entry
-use Rattle.gr_hist.specs.Names.{Bytes, is_name}
+use Rattle.gr_hist.specs.Names.{Bytes}
 use Rattle.gr_hist.specs.Grammar.{IsEntry, IsHeader, IsHow, IsId, IsWord}
 use Rattle.gr_hist.specs.Lines.{IsHeaderAt, IsLineAt, IsNoHeader, IsNoLine, entry_in, header_in, header_of, limits_of, sizes_of}
 use Rattle.gr_hist.specs.Reading.{Gives, cut_at, entry_of, number_of, parts_in}

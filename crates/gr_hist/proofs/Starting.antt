@@ -1,5 +1,5 @@
 -- The lines of tasks and loops that start, both ways.
-use Rattle.std.proofs.Common.{◌≡◌, ◌∙◌, refl, sym, ap, ap₂, subst, Bool, true, false, List, [], ◌∷◌, ◌++◌, Option, Some, None, cond, ℕ, map, codes, decimal, option_map, option_and_then}
+use Rattle.std.proofs.Common.{◌≡◌, ◌∙◌, refl, sym, ap, subst, true, List, [], ◌∷◌, ◌++◌, Some, ℕ, map, codes, decimal, option_map, option_and_then}
 use Rattle.std.specs.Prelude.{All}
 use Rattle.std.specs.Str.{bytes_eq}
 use Rattle.gr_lang.specs.declared.action.TaskId.{TaskId}
@@ -9,8 +9,8 @@ use Rattle.gr_hist.specs.declared.text.NamedEntry.{NamedEntry}
 use Rattle.gr_hist.specs.declared.text.NamedEntry.TheVariants as entry
 use Rattle.gr_hist.specs.Names.{Bytes, is_name}
 use Rattle.gr_hist.specs.Grammar.{IsEntry, IsHow, IsId, IsWord}
-use Rattle.gr_hist.specs.Reading.{act_of, args_of, loop_of, loop_over, loop_with, name_of, number_of, numbers_of, offer_of, spawn_of, start_at, start_of}
-use Rattle.gr_hist.specs.Spelling.{child_part, id_bytes, parts_of}
+use Rattle.gr_hist.specs.Reading.{args_of, loop_of, loop_over, loop_with, name_of, number_of, numbers_of, offer_of, spawn_of, start_at, start_of}
+use Rattle.gr_hist.specs.Spelling.{child_part, id_bytes}
 use Rattle.gr_hist.proofs.Numerals.{number_found, number_only}
 use Rattle.gr_hist.proofs.Options.{either, if_some, map_some, then_some}
 use Rattle.gr_hist.proofs.Spelled.{IsSpelled, name_found, name_only, no_keyword}
