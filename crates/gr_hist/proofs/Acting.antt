@@ -1,5 +1,5 @@
 -- The fields of lines, both ways.
-use Rattle.std.proofs.Common.{◌≡◌, ◌∙◌, refl, sym, ap, subst, Bool, true, false, List, [], ◌∷◌, ◌++◌, Option, Some, None, cond, ℕ, map, codes, decimal, option_map, option_and_then}
+use Rattle.std.proofs.Common.{◌≡◌, ◌∙◌, refl, sym, ap, subst, true, List, [], ◌∷◌, ◌++◌, Option, Some, None, cond, ℕ, map, codes, decimal, option_map, option_and_then}
 use Rattle.std.specs.Str.{bytes_eq}
 use Rattle.gr_lang.specs.declared.action.TaskId.{TaskId}
 use Rattle.gr_lang.specs.declared.action.TrapKind.{TrapKind}
@@ -10,7 +10,7 @@ use Rattle.gr_hist.specs.declared.text.NamedEntry.{NamedEntry}
 use Rattle.gr_hist.specs.declared.text.NamedEntry.TheVariants as entry
 use Rattle.gr_hist.specs.Names.{Bytes, is_object_name}
 use Rattle.gr_hist.specs.Grammar.{IsEntry, IsId}
-use Rattle.gr_hist.specs.Reading.{act_of, begin_of, by_operation, call_of, child_of, end_of, entry_of, finish_of, id_of, loop_of, mark_of, number_of, offer_of, other_of, over_of, print_of, spawn_of, trap_entry, trap_of}
+use Rattle.gr_hist.specs.Reading.{act_of, begin_of, by_operation, call_of, child_of, end_of, entry_of, finish_of, id_of, loop_of, mark_of, number_of, offer_of, other_of, print_of, spawn_of, trap_entry, trap_of}
 use Rattle.gr_hist.specs.Spelling.{child_part, id_bytes, operation_word, parts_of, reducer_part, reply_part, trap_word}
 use Rattle.gr_hist.proofs.Calling.{call_found, call_only}
 use Rattle.gr_hist.proofs.Numerals.{number_found, number_only}
@@ -24,8 +24,13 @@ use Rattle.gr_hist.proofs.Wording.{number_no_operation, operation_found, operati
 
 object_act : (task : TaskId) (object : Bytes) (ps : List Bytes) → is_object_name object ≡ true → act_of task object ps ≡ other_of task object ps
 object_act task object ps is =
-    rw (no_object object 12 (codes "print") is refl refl, no_object object 16 (codes "finish") is refl refl, no_object object 13 (codes "spawn") is refl refl,
-        no_object object 15 (codes "offer") is refl refl, no_object object 17 (codes "forall") is refl refl) refl
+    rw (
+      no_object object 12 (codes "print") is refl refl,
+      no_object object 16 (codes "finish") is refl refl,
+      no_object object 13 (codes "spawn") is refl refl,
+      no_object object 15 (codes "offer") is refl refl,
+      no_object object 17 (codes "forall") is refl refl,
+    ) refl
 
 act_only : (task : TaskId) (e : NamedEntry) (word : Bytes) (ps : List Bytes) → IsId task → act_of task word ps ≡ Some e → entry_of (id_bytes task ∷ word ∷ ps) ≡ Some e
 act_only task e word ps is act = ap (option_and_then (λ t. act_of t word ps)) (id_only task is) ∙ act
@@ -99,8 +104,8 @@ end_found : (task : TaskId) (word : Bytes) (e : NamedEntry) → IsId task → en
 end_found task word e is h = either (bytes_eq word (codes "pass")) (Some (entry.Pass task)) (cond (bytes_eq word (codes "end")) (Some (entry.End task)) None) e h
     (λ same pass. with_word task word (codes "pass") [] e same (subst (IsAct task (codes "pass") []) (same_some (entry.Pass task) e pass) (record { numbers = is; names = tt; shape = tt }, refl)))
     (λ other more.
-        let t = if_some (bytes_eq word (codes "end")) (Some (entry.End task)) e more in
-        with_word task word (codes "end") [] e t.0 (subst (IsAct task (codes "end") []) (same_some (entry.End task) e t.1) (record { numbers = is; names = tt; shape = tt }, refl)))
+    let t = if_some (bytes_eq word (codes "end")) (Some (entry.End task)) e more in
+    with_word task word (codes "end") [] e t.0 (subst (IsAct task (codes "end") []) (same_some (entry.End task) e t.1) (record { numbers = is; names = tt; shape = tt }, refl)))
 
 trap_entry_found : (task : TaskId) (p : Bytes) (ps : List Bytes) (e : NamedEntry) → IsId task → trap_entry task p ps ≡ Some e → IsAct task (codes "trap") (p ∷ ps) e
 trap_entry_found task p [] e is h =
@@ -122,8 +127,8 @@ unfolding mark_of
 mark_found task word p ps e is h = either (bytes_eq word (codes "trap")) (trap_entry task p ps) (cond (bytes_eq word (codes "begin")) (begin_of task p ps) None) e h
     (λ same trap. with_word task word (codes "trap") (p ∷ ps) e same (trap_entry_found task p ps e is trap))
     (λ other more.
-        let t = if_some (bytes_eq word (codes "begin")) (begin_of task p ps) e more in
-        with_word task word (codes "begin") (p ∷ ps) e t.0 (begin_found task p ps e is t.1))
+    let t = if_some (bytes_eq word (codes "begin")) (begin_of task p ps) e more in
+    with_word task word (codes "begin") (p ∷ ps) e t.0 (begin_found task p ps e is t.1))
 
 other_found : (task : TaskId) (word : Bytes) (ps : List Bytes) (e : NamedEntry) → IsId task → other_of task word ps ≡ Some e → IsAct task word ps e
 unfolding other_of

@@ -1,18 +1,18 @@
 -- The lines of calls, both ways.
-use Rattle.std.proofs.Common.{◌≡◌, ◌∙◌, refl, sym, ap, subst, Bool, true, false, List, [], ◌∷◌, ◌++◌, Option, Some, None, cond, ℕ, map, codes, decimal, option_map, option_and_then, is_some}
-use Rattle.std.specs.Prelude.{All, IfSome, length, ◌<◌}
+use Rattle.std.proofs.Common.{◌≡◌, ◌∙◌, sym, ap, subst, Bool, true, List, [], ◌∷◌, ◌++◌, Option, Some, None, cond, ℕ, map, decimal, option_map, option_and_then, is_some}
+use Rattle.std.specs.Prelude.{IfSome, ◌<◌}
 use Rattle.gr_lang.specs.declared.action.TaskId.{TaskId}
 use Rattle.gr_lang.specs.declared.operation.Operation.{Operation}
-use Rattle.gr_lang.specs.Operations.{argument_count, result_count, takes_reducer, reducer_of}
+use Rattle.gr_lang.specs.Operations.{takes_reducer, reducer_of}
 use Rattle.gr_hist.specs.declared.text.NamedEntry.{NamedEntry}
 use Rattle.gr_hist.specs.declared.text.NamedEntry.TheVariants as entry
 use Rattle.gr_hist.specs.Names.{Bytes, is_object_name}
-use Rattle.gr_hist.specs.Grammar.{IsEntry, IsId, IsWord}
+use Rattle.gr_hist.specs.Grammar.{IsEntry, IsId}
 use Rattle.gr_hist.specs.Reading.{call_of, call_with, object_name_of, reducing_of, tail_of}
-use Rattle.gr_hist.specs.Spelling.{id_bytes, operation_word, parts_of, reducer_part, reply_part}
+use Rattle.gr_hist.specs.Spelling.{id_bytes, operation_word, reducer_part, reply_part}
 use Rattle.gr_hist.proofs.Options.{either, map_some, then_some}
 use Rattle.gr_hist.proofs.Spelled.{IsSpelled, object_found, object_only}
-use Rattle.gr_hist.proofs.Tails.{IsTail, tail_found, tail_only}
+use Rattle.gr_hist.proofs.Tails.{tail_found, tail_only}
 use Rattle.gr_hist.proofs.Wording.{reducer_found, reducer_only}
 
 with_only : (task : TaskId) (object : Bytes) (op : Operation) (reducer : Option ℕ) (numbers reply : List ℕ) → IsEntry (entry.Call task object op reducer numbers reply)
@@ -46,9 +46,10 @@ with_found : (task : TaskId) (object : Bytes) (op : Operation) (reducer : Option
 with_found task object op reducer ps e is name small takes h =
     let t = map_some (λ (t : List ℕ × List ℕ). entry.Call task object op reducer t.0 t.1) (tail_of op ps) e h in
     let f = tail_found op ps t.0 t.1 in
-    subst (IsSpelled (id_bytes task ∷ object ∷ operation_word op ∷ (reducer_part reducer ++ ps))) t.2
-    (record { numbers = (is, f.numbers_fit, f.reply_fits); names = (name, small); shape = (takes, f.arguments, f.results) },
-     (λ j. id_bytes task ∷ object ∷ operation_word op ∷ (reducer_part reducer ++ f.spelled j)))
+    subst (IsSpelled (id_bytes task ∷ object ∷ operation_word op ∷ (reducer_part reducer ++ ps))) t.2 (
+      record { numbers = (is, f.numbers_fit, f.reply_fits); names = (name, small); shape = (takes, f.arguments, f.results) },
+      (λ j. id_bytes task ∷ object ∷ operation_word op ∷ (reducer_part reducer ++ f.spelled j)),
+    )
 
 reducing_found : (task : TaskId) (object : Bytes) (op : Operation) (ps : List Bytes) (e : NamedEntry) → IsId task → is_object_name object ≡ true → takes_reducer op ≡ true
     → reducing_of task object op ps ≡ Some e → IsSpelled (id_bytes task ∷ object ∷ operation_word op ∷ ps) e
@@ -66,5 +67,5 @@ call_found task bytes op ps e is h =
     let n = object_found bytes object.0 object.1 in
     subst (λ (x : Bytes). IsSpelled (id_bytes task ∷ x ∷ operation_word op ∷ ps) e) (sym n.0)
     (either (takes_reducer op) (reducing_of task object.0 op ps) (call_with task object.0 op None ps) e object.2
-        (λ takes more. reducing_found task object.0 op ps e is n.1 takes more)
-        (λ takes more. with_found task object.0 op None ps e is n.1 tt (sym takes) more))
+    (λ takes more. reducing_found task object.0 op ps e is n.1 takes more)
+    (λ takes more. with_found task object.0 op None ps e is n.1 tt (sym takes) more))

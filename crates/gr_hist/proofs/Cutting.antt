@@ -1,7 +1,7 @@
 -- Cutting a text at a byte, and a line into its fields.
 use Rattle.std.proofs.Common.{◌≡◌, ◌∙◌, ◌<◌, ◌≤◌, ◌==◌, ap, ap₂, refl, sym, ℕ, zero, suc, ◌+◌, Bool, true, false, not, List, [], ◌∷◌, ◌++◌, length, take, drop, Option, Some, None, unwrap_or, arith, cond, append-nil}
 use Rattle.std.proofs.lemmas.Bool.{eqb-true, ne_eqb, eq-eqb}
-use Rattle.std.specs.List.{prefix_len, join_with_byte, slice_split, onto_first}
+use Rattle.std.specs.List.{prefix_len, join_with_byte, onto_first}
 use Rattle.std.proofs.lemmas.List.Splits.{slice_split-cons_yes, slice_split-cons_no}
 use Rattle.gr_hist.specs.Names.{Bytes}
 use Rattle.gr_hist.specs.Reading.{cut_at, onto_cut, parts_in}

@@ -1,10 +1,10 @@
 -- Lines and headers, both ways: no field has a space, and no line a line feed but the last.
-use Rattle.std.proofs.Common.{◌≡◌, ◌≢◌, ◌∙◌, ◌<◌, ◌≤◌, ◌^◌, ◌+◌, refl, sym, ap, ap₂, subst, ℕ, Bool, true, false, List, [], ◌∷◌, ◌++◌, length, Option, Some, None, Result, Ok, Err, unwrap_or, cond, map, codes, decimal, arith, option_and_then, nat_le}
+use Rattle.std.proofs.Common.{◌≡◌, ◌∙◌, ◌<◌, ◌^◌, refl, sym, ap, subst, ℕ, List, [], ◌∷◌, ◌++◌, length, Option, Some, None, Err, map, codes, decimal, arith, option_and_then, nat_le}
 use Rattle.std.specs.Prelude.{All, IfSome, ◌&&◌}
 use Rattle.std.specs.Str.{bytes_eq}
 use Rattle.std.specs.List.{join_with_byte}
 use Rattle.std.proofs.lemmas.Bool.{leb-true, le-leb}
-use Rattle.std.proofs.lemmas.List.{append_assoc, length-append}
+use Rattle.std.proofs.lemmas.List.{append_assoc}
 use Rattle.std.proofs.lemmas.List.Elements.{All-head, All-tail}
 use Rattle.std.proofs.lemmas.List.Splits.{join_with_byte-slice_split}
 use Rattle.gr_lang.specs.declared.action.TaskId.{TaskId}
@@ -14,7 +14,7 @@ use Rattle.gr_hist.specs.declared.fields.LineError.{LineError}
 use Rattle.gr_hist.specs.declared.fields.LineError.TheVariants as error
 use Rattle.gr_hist.specs.declared.text.NamedEntry.{NamedEntry}
 use Rattle.gr_hist.specs.declared.text.NamedEntry.TheVariants as entry
-use Rattle.gr_hist.specs.Names.{Bytes, is_name}
+use Rattle.gr_hist.specs.Names.{Bytes}
 use Rattle.gr_hist.specs.Grammar.{IsEntry, IsHeader, IsHow, IsId, IsWord}
 use Rattle.gr_hist.specs.Lines.{IsHeaderAt, IsLineAt, IsNoHeader, IsNoLine, entry_in, header_in, header_of, limits_of, sizes_of}
 use Rattle.gr_hist.specs.Reading.{Gives, cut_at, entry_of, number_of, parts_in}
@@ -58,18 +58,43 @@ over_how (how.At core) is = (search arith, (search arith, (over_number core is, 
 over_how how.Offer is = (search arith, tt)
 
 over_parts : (e : NamedEntry) → IsEntry e → EachOver 45 (parts_of e)
-over_parts (entry.Call task object op reducer numbers reply) is =
-    (over_id task is.numbers.0, (weaker object (over_object object is.names.0), (over_operation op,
-    each_append 45 (reducer_part reducer) (map decimal numbers ++ reply_part reply) (over_reducers reducer is.names.1)
-        (each_append 45 (map decimal numbers) (reply_part reply) (over_numbers numbers is.numbers.1) (over_reply reply is.numbers.2)))))
+over_parts (entry.Call task object op reducer numbers reply) is = (
+  over_id task is.numbers.0,
+  (
+    weaker object (over_object object is.names.0),
+    (
+      over_operation op,
+      each_append 45 (reducer_part reducer) (map decimal numbers ++ reply_part reply) (over_reducers reducer is.names.1)
+          (each_append 45 (map decimal numbers) (reply_part reply) (over_numbers numbers is.numbers.1) (over_reply reply is.numbers.2)),
+    ),
+  ),
+)
 over_parts (entry.Print task word) is = (over_id task is.numbers.0, (search arith, (over_number word is.numbers.1, tt)))
-over_parts (entry.Spawn task way target args child) is =
-    (over_id task is.numbers.0, each_append 45 (how_part way) (target ∷ (map decimal args ++ child_part child)) (over_how way is.numbers.1)
-        (weaker target (over_name target is.names), each_append 45 (map decimal args) (child_part child) (over_numbers args is.numbers.2) (over_child child is.numbers.3)))
+over_parts (entry.Spawn task way target args child) is = (
+  over_id task is.numbers.0,
+  each_append 45 (how_part way) (target ∷ (map decimal args ++ child_part child)) (over_how way is.numbers.1)
+      (weaker target (over_name target is.names), each_append 45 (map decimal args) (child_part child) (over_numbers args is.numbers.2) (over_child child is.numbers.3)),
+)
 over_parts (entry.Finish task) is = (over_id task is.numbers, (search arith, tt))
-over_parts (entry.Loop task lo hi grain target args) is =
-    (over_id task is.numbers.0, (search arith, (over_number lo is.numbers.1, (over_number hi is.numbers.2, (search arith, (over_number grain is.numbers.3,
-    (weaker target (over_name target is.names), over_numbers args is.numbers.4)))))))
+over_parts (entry.Loop task lo hi grain target args) is = (
+  over_id task is.numbers.0,
+  (
+    search arith,
+    (
+      over_number lo is.numbers.1,
+      (
+        over_number hi is.numbers.2,
+        (
+          search arith,
+          (
+            over_number grain is.numbers.3,
+            (weaker target (over_name target is.names), over_numbers args is.numbers.4),
+          ),
+        ),
+      ),
+    ),
+  ),
+)
 over_parts (entry.Begin owner index child) is = (over_id owner is.numbers.0, (search arith, (over_number index is.numbers.1, over_child child is.numbers.2)))
 over_parts (entry.Pass task) is = (over_id task is.numbers, (search arith, tt))
 over_parts (entry.End task) is = (over_id task is.numbers, (search arith, tt))

@@ -1,5 +1,5 @@
 -- The bytes of names.
-use Rattle.std.proofs.Common.{◌≡◌, ◌<◌, refl, sym, subst, rules, ℕ, Bool, true, false, not, List, [], ◌∷◌, length, nat_le, arith, codes, All}
+use Rattle.std.proofs.Common.{◌≡◌, ◌<◌, refl, sym, subst, ℕ, Bool, true, false, not, [], ◌∷◌, length, nat_le, arith, codes, All}
 use Rattle.std.specs.Prelude.{◌&&◌, ◌||◌}
 use Rattle.std.specs.List.{list_all}
 use Rattle.std.specs.Str.{IsUtf8, bytes_eq}

@@ -1,5 +1,5 @@
 -- The reader takes a numeral just where it is what `decimal` writes.
-use Rattle.std.proofs.Common.{◌≡◌, ◌∙◌, ◌<◌, ◌≤◌, ◌==◌, ◌^◌, ◌&&◌, ◌+◌, ◌*◌, ◌-◌, ap, refl, sym, ℕ, zero, suc, Bool, true, false, not, List, [], ◌∷◌, length, nat_lt, nat_le, Option, Some, None, unwrap_or, arith, cond, decimal, get_or, option_and_then}
+use Rattle.std.proofs.Common.{◌≡◌, ◌∙◌, ◌<◌, ◌≤◌, ◌^◌, ◌&&◌, ◌+◌, ◌*◌, ◌-◌, ap, refl, sym, ℕ, zero, suc, Bool, true, false, not, [], ◌∷◌, length, nat_lt, nat_le, Option, Some, None, unwrap_or, arith, cond, decimal, get_or, option_and_then}
 use Rattle.std.proofs.lemmas.Bool.{ne_eqb, eq-eqb, ltb-true, lt-ltb, leb-true, le-leb}
 use Rattle.std.specs.Fmt.{digits}
 use Rattle.std.specs.Char.{digit_value, is_ascii_digit}

@@ -1,5 +1,5 @@
 -- What a text reads as: it has one reading, and the reader's steps lead to it.
-use Rattle.std.proofs.Common.{◌≡◌, ◌≢◌, ◌∙◌, ◌<◌, ◌+◌, refl, sym, ap, ap₂, subst, ℕ, List, [], ◌∷◌, ◌++◌, length, Result, Ok, Err, arith, append-nil}
+use Rattle.std.proofs.Common.{◌≡◌, ◌≢◌, ◌<◌, ◌+◌, refl, sym, ap, ap₂, subst, ℕ, List, [], ◌∷◌, ◌++◌, length, Ok, Err, arith}
 use Rattle.std.proofs.lemmas.List.{append_assoc, length-append}
 use Rattle.std.specs.List.{join_with_byte}
 use Rattle.gr_hist.specs.declared.fields.LineError.{LineError}
@@ -8,9 +8,9 @@ use Rattle.gr_hist.specs.declared.text.HistError.{HistError}
 use Rattle.gr_hist.specs.declared.text.HistError.TheVariants as faults
 use Rattle.gr_hist.specs.declared.text.NamedEntry.{NamedEntry}
 use Rattle.gr_hist.specs.Names.{Bytes}
-use Rattle.gr_hist.specs.Grammar.{IsHeader, IsSameError, Lines, Outcome, ReadsLines, ReadsOnce, ReadsText, SaysError, with_front, with_header}
+use Rattle.gr_hist.specs.Grammar.{IsSameError, Lines, Outcome, ReadsLines, ReadsOnce, ReadsText, SaysError, with_front, with_header}
 use Rattle.gr_hist.specs.Lines.{IsHeaderAt, IsLineAt, IsNoHeader, IsNoLine, SaysLine, error_at}
-use Rattle.gr_hist.specs.Spelling.{header_parts, line_of, parts_of}
+use Rattle.gr_hist.specs.Spelling.{line_of, parts_of}
 use Rattle.gr_hist.proofs.LineBytes.{entry_one, header_one}
 
 -- A line isn't empty.

@@ -1,15 +1,14 @@
 -- What it is that fields spell an entry.
-use Rattle.std.proofs.Common.{◌≡◌, ◌∙◌, refl, sym, ap, subst, Bool, true, false, List, [], ◌∷◌, ◌++◌, Option, Some, None, not, nat_le, length, ℕ, zero, suc, slice_get, codes}
+use Rattle.std.proofs.Common.{◌≡◌, ◌∙◌, refl, sym, ap, subst, Bool, true, false, List, [], ◌∷◌, Some, not, nat_le, length, ℕ, zero, suc, slice_get, codes}
 use Rattle.std.specs.Prelude.{◌&&◌, ◌||◌}
 use Rattle.std.specs.List.{list_any}
 use Rattle.std.specs.Str.{bytes_eq}
 use Rattle.gr_lang.specs.Names.{has}
-use Rattle.gr_lang.specs.declared.action.TaskId.{TaskId}
 use Rattle.gr_hist.specs.declared.text.NamedEntry.{NamedEntry}
 use Rattle.gr_hist.specs.Names.{Bytes, is_name, is_object_name, is_spelled, keywords}
-use Rattle.gr_hist.specs.Grammar.{IsEntry, IsId}
+use Rattle.gr_hist.specs.Grammar.{IsEntry}
 use Rattle.gr_hist.specs.Reading.{name_of, object_name_of}
-use Rattle.gr_hist.specs.Spelling.{id_bytes, parts_of}
+use Rattle.gr_hist.specs.Spelling.{parts_of}
 use Rattle.gr_hist.proofs.Numerals.{both}
 use Rattle.gr_hist.proofs.Options.{if_some, same_some}
 use Rattle.gr_hist.proofs.Wording.{same_text}

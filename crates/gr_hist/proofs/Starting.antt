@@ -1,5 +1,5 @@
 -- The lines of tasks and loops that start, both ways.
-use Rattle.std.proofs.Common.{◌≡◌, ◌∙◌, refl, sym, ap, ap₂, subst, Bool, true, false, List, [], ◌∷◌, ◌++◌, Option, Some, None, cond, ℕ, map, codes, decimal, option_map, option_and_then}
+use Rattle.std.proofs.Common.{◌≡◌, ◌∙◌, refl, sym, ap, subst, true, List, [], ◌∷◌, ◌++◌, Some, ℕ, map, codes, decimal, option_map, option_and_then}
 use Rattle.std.specs.Prelude.{All}
 use Rattle.std.specs.Str.{bytes_eq}
 use Rattle.gr_lang.specs.declared.action.TaskId.{TaskId}
@@ -9,8 +9,8 @@ use Rattle.gr_hist.specs.declared.text.NamedEntry.{NamedEntry}
 use Rattle.gr_hist.specs.declared.text.NamedEntry.TheVariants as entry
 use Rattle.gr_hist.specs.Names.{Bytes, is_name}
 use Rattle.gr_hist.specs.Grammar.{IsEntry, IsHow, IsId, IsWord}
-use Rattle.gr_hist.specs.Reading.{act_of, args_of, loop_of, loop_over, loop_with, name_of, number_of, numbers_of, offer_of, spawn_of, start_at, start_of}
-use Rattle.gr_hist.specs.Spelling.{child_part, id_bytes, parts_of}
+use Rattle.gr_hist.specs.Reading.{args_of, loop_of, loop_over, loop_with, name_of, number_of, numbers_of, offer_of, spawn_of, start_at, start_of}
+use Rattle.gr_hist.specs.Spelling.{child_part, id_bytes}
 use Rattle.gr_hist.proofs.Numerals.{number_found, number_only}
 use Rattle.gr_hist.proofs.Options.{either, if_some, map_some, then_some}
 use Rattle.gr_hist.proofs.Spelled.{IsSpelled, name_found, name_only, no_keyword}
@@ -66,7 +66,7 @@ spawn_found task [] e is h = cc
 spawn_found task (p ∷ ps) e is h = either (bytes_eq p (codes "at")) (start_at task ps) (start_of task how.Here p ps) e h
     (λ sign at. subst (λ (x : Bytes). IsSpelled (id_bytes task ∷ codes "spawn" ∷ x ∷ ps) e) (sym (same_text p (codes "at") sign)) (at_found task ps e is at))
     (λ other here. let s = start_found task how.Here p ps e is tt here in
-        subst (IsSpelled (id_bytes task ∷ codes "spawn" ∷ p ∷ ps)) s.6 (s.5, (λ j. id_bytes task ∷ codes "spawn" ∷ s.3 j ∷ s.4 j)))
+    subst (IsSpelled (id_bytes task ∷ codes "spawn" ∷ p ∷ ps)) s.6 (s.5, (λ j. id_bytes task ∷ codes "spawn" ∷ s.3 j ∷ s.4 j)))
 
 pub offer_found : (task : TaskId) (ps : List Bytes) (e : NamedEntry) → IsId task → offer_of task ps ≡ Some e → IsSpelled (id_bytes task ∷ codes "offer" ∷ ps) e
 unfolding offer_of
@@ -106,6 +106,7 @@ loop_found task (p ∷ q ∷ sign ∷ ps) e is h =
         let r = number_found g grain.0 grain.1 in
         let n = name_found target name.0 name.1 in
         let a = numbers_found ps args.0 args.1 in
-        subst (IsSpelled (id_bytes task ∷ codes "forall" ∷ p ∷ q ∷ codes "grain" ∷ g ∷ target ∷ ps)) args.2
-        (record { numbers = (is, l.1, u.1, r.1, a.1); names = n.1; shape = tt },
-         (λ j. id_bytes task ∷ codes "forall" ∷ l.0 j ∷ u.0 j ∷ codes "grain" ∷ r.0 j ∷ n.0 j ∷ a.0 j))
+        subst (IsSpelled (id_bytes task ∷ codes "forall" ∷ p ∷ q ∷ codes "grain" ∷ g ∷ target ∷ ps)) args.2 (
+          record { numbers = (is, l.1, u.1, r.1, a.1); names = n.1; shape = tt },
+          (λ j. id_bytes task ∷ codes "forall" ∷ l.0 j ∷ u.0 j ∷ codes "grain" ∷ r.0 j ∷ n.0 j ∷ a.0 j),
+        )

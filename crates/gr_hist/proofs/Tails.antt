@@ -1,8 +1,8 @@
 -- The numbers and result words of a call, and the arguments of a start, both ways.
-use Rattle.std.proofs.Common.{◌≡◌, ◌∙◌, ◌==◌, ◌≤◌, ◌<◌, ◌+◌, ◌-◌, ap, ap₂, refl, sym, subst, Bool, true, false, List, [], ◌∷◌, ◌++◌, Option, Some, None, cond, ℕ, zero, suc, map, length, take, drop, option_map, option_and_then, arith, codes, decimal, nat_lt}
+use Rattle.std.proofs.Common.{◌≡◌, ◌∙◌, ◌==◌, ◌+◌, ◌-◌, ap, ap₂, refl, sym, subst, Bool, true, false, List, [], ◌∷◌, ◌++◌, Option, Some, None, cond, ℕ, zero, suc, map, length, take, drop, option_map, option_and_then, arith, codes, decimal, nat_lt}
 use Rattle.std.specs.Prelude.{All}
-use Rattle.std.proofs.lemmas.Bool.{eqb-true, eq-eqb, ne_eqb, le-ltb, ltb-false}
-use Rattle.std.proofs.lemmas.List.{length-map, length-append, append_assoc}
+use Rattle.std.proofs.lemmas.Bool.{eqb-true, eq-eqb, ne_eqb, le-ltb}
+use Rattle.std.proofs.lemmas.List.{length-map, length-append}
 use Rattle.std.proofs.lemmas.List.Elements.{All-nil, All-cons, All-head, All-tail}
 use Rattle.std.specs.Str.{bytes_eq}
 use Rattle.gr_lang.specs.declared.action.TaskId.{TaskId}
@@ -10,7 +10,7 @@ use Rattle.gr_lang.specs.declared.operation.Operation.{Operation}
 use Rattle.gr_lang.specs.Operations.{argument_count, result_count}
 use Rattle.gr_hist.specs.Names.{Bytes}
 use Rattle.gr_hist.specs.Grammar.{IsId, IsWord}
-use Rattle.gr_hist.specs.Reading.{args_of, args_with, child_of, counted_of, cut_at, id_of, id_of_halves, number_of, numbers_of, onto, reply_of, tail_for, tail_of}
+use Rattle.gr_hist.specs.Reading.{args_of, args_with, child_of, counted_of, cut_at, id_of, id_of_halves, number_of, numbers_of, onto, reply_of, tail_of}
 use Rattle.gr_hist.specs.Spelling.{child_part, id_bytes, reply_part}
 use Rattle.gr_hist.proofs.Cutting.{cut_found, cut_only}
 use Rattle.gr_hist.proofs.Numerals.{number_found, number_only, over_decimal}

@@ -1,5 +1,5 @@
 -- A line is its first field, the others with a space before each, and a line feed.
-use Rattle.std.proofs.Common.{◌≡◌, ◌∙◌, ap, refl, sym, ℕ, List, [], ◌∷◌, ◌++◌, codes}
+use Rattle.std.proofs.Common.{◌≡◌, ◌∙◌, ap, refl, sym, List, [], ◌∷◌, ◌++◌, codes}
 use Rattle.std.proofs.lemmas.List.{append_assoc, append-nil}
 use Rattle.std.specs.List.{join_with_byte}
 use Rattle.gr_hist.specs.Names.{Bytes}
@@ -49,7 +49,7 @@ pub start_written : (old id target : Bytes) (hs ns cs : List Bytes) (a h t n d :
     → d ++ 10 ∷ [] ≡ old ++ line_of (id ∷ (hs ++ target ∷ (ns ++ cs)))
 start_written old id target hs ns cs a h t n d ea eh et en ed =
     let tail : trail hs ++ 32 ∷ (target ++ (trail ns ++ trail cs)) ≡ trail (hs ++ target ∷ (ns ++ cs)) =
-        ap (λ (x : Bytes). trail hs ++ 32 ∷ (target ++ x)) (sym (trail_append ns cs)) ∙ sym (trail_append hs (target ∷ (ns ++ cs))) in
+    ap (λ (x : Bytes). trail hs ++ 32 ∷ (target ++ x)) (sym (trail_append ns cs)) ∙ sym (trail_append hs (target ∷ (ns ++ cs))) in
     rw (ed, en, et, eh, ea)
     (flat_six old id (trail hs) (32 ∷ target) (trail ns) (trail cs) (10 ∷ [])
     ∙ ap (λ (x : Bytes). old ++ (id ++ (x ++ 10 ∷ []))) tail

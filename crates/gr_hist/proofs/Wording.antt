@@ -1,5 +1,5 @@
 -- Words of operations, reducers and traps, both ways.
-use Rattle.std.proofs.Common.{◌≡◌, ◌∙◌, ◌<◌, ◌≤◌, ap, refl, sym, subst, Bool, true, false, List, [], ◌∷◌, Option, Some, None, ℕ, zero, suc, codes, arith}
+use Rattle.std.proofs.Common.{◌≡◌, ◌∙◌, ◌<◌, ap, refl, sym, subst, true, List, [], ◌∷◌, Option, Some, None, ℕ, zero, suc, arith}
 use Rattle.std.specs.Str.{bytes_eq}
 use Rattle.std.proofs.lemmas.Slice.Eq.{bytes_eq-Decides}
 use Rattle.gr_lang.specs.declared.action.TrapKind.{TrapKind}
@@ -11,7 +11,6 @@ use Rattle.gr_hist.specs.Names.{Bytes}
 use Rattle.gr_hist.specs.Reading.{first_with, number_of, trap_of}
 use Rattle.gr_hist.specs.Spelling.{operation_word, reducer_word, trap_word}
 use Rattle.gr_hist.proofs.Cutting.{Over}
-use Rattle.gr_hist.proofs.Numerals.{number_only}
 use Rattle.gr_hist.proofs.Options.{either, same_some, some_none}
 
 pub same_text : (x y : Bytes) → bytes_eq x y ≡ true → x ≡ y

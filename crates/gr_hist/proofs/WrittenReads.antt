@@ -1,5 +1,5 @@
 -- What is written reads as the history with its names.
-use Rattle.std.proofs.Common.{◌≡◌, ◌∙◌, ◌≤◌, ◌+◌, ◌^◌, ◌++◌, refl, sym, subst, ℕ, List, [], ◌∷◌, map, Ok}
+use Rattle.std.proofs.Common.{◌≡◌, ◌≤◌, ◌+◌, ◌^◌, refl, sym, subst, ℕ, List, [], ◌∷◌, map, Ok}
 use Rattle.std.proofs.lemmas.List.Elements.{All-head, All-tail}
 use Rattle.gr_lang.specs.declared.action.Op.{Op}
 use Rattle.gr_lang.specs.declared.action.Op.TheVariants as ops
@@ -9,7 +9,7 @@ use Rattle.gr_lang.specs.declared.action.Entry.{Entry}
 use Rattle.gr_lang.specs.declared.action.Entry.TheVariants as plain
 use Rattle.gr_lang.specs.declared.syntax.Program.{Program}
 use Rattle.gr_hist.specs.Names.{Bytes}
-use Rattle.gr_hist.specs.Grammar.{HasNames, HasNumbers, HasShape, IsEntry, IsHeader, ReadsLines, ReadsText}
+use Rattle.gr_hist.specs.Grammar.{HasNames, HasShape, IsEntry, IsHeader, ReadsLines, ReadsText}
 use Rattle.gr_hist.specs.Naming.{IsNamable, NameTable, history_text, lines_of, named, named_by, named_call, names_of}
 use Rattle.gr_hist.specs.Written.{HaveNumbers}
 

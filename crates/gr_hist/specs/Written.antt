@@ -1,5 +1,5 @@
 -- What the functions of the writer add to a text.
-use Rattle.std.specs.Prelude.{◌≡◌, ℕ, List, [], ◌∷◌, ◌++◌, take}
+use Rattle.std.specs.Prelude.{List, [], ◌∷◌, ◌++◌, take}
 use Rattle.gr_lang.specs.declared.action.TaskId.{TaskId}
 use Rattle.gr_lang.specs.declared.action.Entry.{Entry}
 use Rattle.gr_lang.specs.declared.action.Reply.{Reply}

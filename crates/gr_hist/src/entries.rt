@@ -118,12 +118,7 @@ fn by_operation(
 
 /// An entry whose first word is no keyword.
 #[tactic(auto, unfolding(crate::specs::Reading::other_of))]
-fn other(
-    alloc: Global,
-    task: TaskId,
-    word: &[u8],
-    parts: &[&[u8]],
-) -> Result<NamedEntry, LineError>
+fn other(alloc: Global, task: TaskId, word: &[u8], parts: &[&[u8]]) -> Result<NamedEntry, LineError>
     ensures { Gives (other_of task word.now (map (λ x. x.now) parts.now)) result }
 {
     match parts {

@@ -4,7 +4,10 @@ ghost use Rattle.gr_hist.specs.declared.text.NamedEntry.TheVariants as entry;
 ghost use Rattle.gr_hist.specs.Grammar.{HasNumbers, IsId};
 ghost use Rattle.gr_hist.specs.Spelling.{id_bytes, line_of, parts_of};
 
-use crate::putting::{put_child, put_how, put_id, put_number, put_numbers, put_range, put_reducer, put_reply, put_text, put_word};
+use crate::putting::{
+    put_child, put_how, put_id, put_number, put_numbers, put_range, put_reducer, put_reply,
+    put_text, put_word,
+};
 use crate::words::{operation_word, trap_word};
 use gr_lang::action::{How, TaskId, TrapKind};
 use gr_lang::operation::Operation;
@@ -94,7 +97,12 @@ pub fn put_loop(
 }
 
 /// Adds the line of an index that begins.
-pub fn put_begin(out: &mut Vec<u8>, owner: TaskId, index: u64, child: TaskId) -> Result<(), AllocError>
+pub fn put_begin(
+    out: &mut Vec<u8>,
+    owner: TaskId,
+    index: u64,
+    child: TaskId,
+) -> Result<(), AllocError>
     ensures text { OnOk result (out.new.items ≡ out.old.items ++ line_of (parts_of (entry.Begin owner index child))) }
     ensures fits { HasNumbers (entry.Begin owner index child) }
 {

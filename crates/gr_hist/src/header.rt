@@ -45,8 +45,9 @@ pub fn header(parts: &[&[u8]]) -> Result<(u64, u64), LineError>
 {
     match parts {
         [first, version, sign, rest @ ..] => {
-            let is_first =
-                is_text(*first, "history") && is_text(*version, "1") && is_text(*sign, "cores");
+            let is_first = is_text(*first, "history")
+                && is_text(*version, "1")
+                && is_text(*sign, "cores");
             if !is_first {
                 return Err(LineError::Bad);
             }

@@ -60,8 +60,8 @@ fn line_at(alloc: Global, text: &[u8]) -> Result<(NamedEntry, &[u8]), LineError>
 fn header_at(alloc: Global, text: &[u8]) -> Result<((u64, u64), &[u8]), LineError>
     ensures { MatchResult result (λ p. IsHeaderAt text.now p.0.0 p.0.1 p.1.now) (IsNoHeader text.now) }
 {
-    let found = cut(text, b'\n');
-    match found {
+    let first = cut(text, b'\n');
+    match first {
         Some((line, rest)) => {
             let sizes = header_in(alloc, line)?;
             Ok((sizes, rest))

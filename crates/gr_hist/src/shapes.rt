@@ -21,7 +21,9 @@ pub enum Shape {
         numbers: [u64; 3],
     },
     /// The word that is printed.
-    Print { word: u64 },
+    Print {
+        word: u64,
+    },
 }
 
 fn call(object: u64, op: Operation, numbers: [u64; 3]) -> Shape
@@ -52,21 +54,40 @@ pub fn shape_of(op: Op) -> Shape
 {
     match op {
         Op::Read { object, place } => call(object, Operation::Read, [place, 0, 0]),
-        Op::Write { object, place, word } => call(object, Operation::Write, [place, word, 0]),
-        Op::Add { object, place, word } => call(object, Operation::Add, [place, word, 0]),
-        Op::Cas { object, place, old, new } => call(object, Operation::Cas, [place, old, new]),
-        Op::Reduce { object, reducer, place, word } => {
-            fold(object, Operation::Reduce, reducer, [place, word, 0])
-        }
+        Op::Write {
+            object,
+            place,
+            word,
+        } => call(object, Operation::Write, [place, word, 0]),
+        Op::Add {
+            object,
+            place,
+            word,
+        } => call(object, Operation::Add, [place, word, 0]),
+        Op::Cas {
+            object,
+            place,
+            old,
+            new,
+        } => call(object, Operation::Cas, [place, old, new]),
+        Op::Reduce {
+            object,
+            reducer,
+            place,
+            word,
+        } => fold(object, Operation::Reduce, reducer, [place, word, 0]),
         Op::Insert { object, key } => call(object, Operation::Insert, [key, 0, 0]),
         Op::Remove { object, key } => call(object, Operation::Remove, [key, 0, 0]),
         Op::Has { object, key } => call(object, Operation::Has, [key, 0, 0]),
         Op::Put { object, key, word } => call(object, Operation::Put, [key, word, 0]),
         Op::Get { object, key } => call(object, Operation::Get, [key, 0, 0]),
         Op::Erase { object, key } => call(object, Operation::Erase, [key, 0, 0]),
-        Op::Merge { object, reducer, key, word } => {
-            fold(object, Operation::Merge, reducer, [key, word, 0])
-        }
+        Op::Merge {
+            object,
+            reducer,
+            key,
+            word,
+        } => fold(object, Operation::Merge, reducer, [key, word, 0]),
         Op::Push { object, word } => call(object, Operation::Push, [word, 0, 0]),
         Op::Pop { object } => call(object, Operation::Pop, [0, 0, 0]),
         Op::Dequeue { object } => call(object, Operation::Dequeue, [0, 0, 0]),

@@ -39,7 +39,10 @@ const READ: [(&str, &str); 15] = [
         "0.0 heap alloc 3 = 0",
         "Call { task: TaskId { core: 0, number: 0 }, object: Text { text: \"heap\" }, op: Alloc, reducer: None, numbers: Words { items: [3] }, reply: Words { items: [0] } }",
     ),
-    ("0.12 print 0", "Print { task: TaskId { core: 0, number: 12 }, word: 0 }"),
+    (
+        "0.12 print 0",
+        "Print { task: TaskId { core: 0, number: 12 }, word: 0 }",
+    ),
     (
         "0.0 spawn as as 0.1",
         "Spawn { task: TaskId { core: 0, number: 0 }, how: Here, target: Text { text: \"as\" }, args: Words { items: [] }, child: TaskId { core: 0, number: 1 } }",
@@ -52,7 +55,10 @@ const READ: [(&str, &str); 15] = [
         "0.0 offer t 9 as 0.3",
         "Spawn { task: TaskId { core: 0, number: 0 }, how: Offer, target: Text { text: \"t\" }, args: Words { items: [9] }, child: TaskId { core: 0, number: 3 } }",
     ),
-    ("0.0 finish", "Finish { task: TaskId { core: 0, number: 0 } }"),
+    (
+        "0.0 finish",
+        "Finish { task: TaskId { core: 0, number: 0 } }",
+    ),
     (
         "0.0 forall 0 8 grain 0 _a_name_of_thirty_two_bytes_0123",
         "Loop { task: TaskId { core: 0, number: 0 }, lo: 0, hi: 8, grain: 0, target: Text { text: \"_a_name_of_thirty_two_bytes_0123\" }, args: Words { items: [] } }",
@@ -63,11 +69,16 @@ const READ: [(&str, &str); 15] = [
     ),
     ("0.0 pass", "Pass { task: TaskId { core: 0, number: 0 } }"),
     ("0.0 end", "End { task: TaskId { core: 0, number: 0 } }"),
-    ("0.0 trap steps", "Trap { task: TaskId { core: 0, number: 0 }, kind: Steps }"),
+    (
+        "0.0 trap steps",
+        "Trap { task: TaskId { core: 0, number: 0 }, kind: Steps }",
+    ),
 ];
 
-/// Texts that aren't read, each with its first bad line.
-const BAD: [(&str, u64); 17] = [
+/// Texts, each with its first bad line; 0 where it is read.
+const TEXTS: [(&str, u64); 19] = [
+    ("history 1 cores 16 steps 1099511627776\n", 0),
+    ("history 1 cores 1 steps 1\nover\n", 0),
     ("", 1),
     ("history 1 cores 4 steps 1000000", 1),
     ("history 2 cores 4 steps 1000000\n", 1),
@@ -119,22 +130,102 @@ const BAD_LINES: [&str; 26] = [
 
 /// Calls by `main` with their replies, each with its line.
 const CALLS: [(Op, u64, u64, &str); 18] = [
-    (Op::Read { object: 0, place: 0 }, 5, 0, "0.0 a read 0 = 5\n"),
-    (Op::Write { object: 0, place: 0, word: 6 }, 0, 0, "0.0 a write 0 6\n"),
-    (Op::Add { object: 0, place: 1, word: 2 }, 6, 0, "0.0 a add 1 2 = 6\n"),
-    (Op::Cas { object: 0, place: 1, old: 2, new: 3 }, 4, 0, "0.0 a cas 1 2 3 = 4\n"),
-    (Op::Reduce { object: 0, reducer: 5, place: 1, word: 2 }, 3, 0, "0.0 a reduce xor 1 2 = 3\n"),
-    (Op::Insert { object: 1, key: 9 }, 1, 0, "0.0 s insert 9 = 1\n"),
-    (Op::Remove { object: 1, key: 9 }, 1, 0, "0.0 s remove 9 = 1\n"),
+    (
+        Op::Read {
+            object: 0,
+            place: 0,
+        },
+        5,
+        0,
+        "0.0 a read 0 = 5\n",
+    ),
+    (
+        Op::Write {
+            object: 0,
+            place: 0,
+            word: 6,
+        },
+        0,
+        0,
+        "0.0 a write 0 6\n",
+    ),
+    (
+        Op::Add {
+            object: 0,
+            place: 1,
+            word: 2,
+        },
+        6,
+        0,
+        "0.0 a add 1 2 = 6\n",
+    ),
+    (
+        Op::Cas {
+            object: 0,
+            place: 1,
+            old: 2,
+            new: 3,
+        },
+        4,
+        0,
+        "0.0 a cas 1 2 3 = 4\n",
+    ),
+    (
+        Op::Reduce {
+            object: 0,
+            reducer: 5,
+            place: 1,
+            word: 2,
+        },
+        3,
+        0,
+        "0.0 a reduce xor 1 2 = 3\n",
+    ),
+    (
+        Op::Insert { object: 1, key: 9 },
+        1,
+        0,
+        "0.0 s insert 9 = 1\n",
+    ),
+    (
+        Op::Remove { object: 1, key: 9 },
+        1,
+        0,
+        "0.0 s remove 9 = 1\n",
+    ),
     (Op::Has { object: 1, key: 9 }, 0, 0, "0.0 s has 9 = 0\n"),
-    (Op::Put { object: 2, key: 4, word: 5 }, 1, 0, "0.0 m put 4 5 = 1\n"),
+    (
+        Op::Put {
+            object: 2,
+            key: 4,
+            word: 5,
+        },
+        1,
+        0,
+        "0.0 m put 4 5 = 1\n",
+    ),
     (Op::Get { object: 2, key: 4 }, 1, 5, "0.0 m get 4 = 1 5\n"),
     (Op::Erase { object: 2, key: 4 }, 1, 0, "0.0 m erase 4 = 1\n"),
-    (Op::Merge { object: 2, reducer: 2, key: 4, word: 8 }, 0, 0, "0.0 m merge max 4 8 = 0\n"),
+    (
+        Op::Merge {
+            object: 2,
+            reducer: 2,
+            key: 4,
+            word: 8,
+        },
+        0,
+        0,
+        "0.0 m merge max 4 8 = 0\n",
+    ),
     (Op::Push { object: 3, word: 1 }, 0, 0, "0.0 v push 1\n"),
     (Op::Pop { object: 3 }, 1, 7, "0.0 v pop = 1 7\n"),
     (Op::Dequeue { object: 3 }, 0, 0, "0.0 v dequeue = 0 0\n"),
-    (Op::Alloc { count: 3 }, 18446744073709551615, 0, "0.0 heap alloc 3 = 18446744073709551615\n"),
+    (
+        Op::Alloc { count: 3 },
+        18446744073709551615,
+        0,
+        "0.0 heap alloc 3 = 18446744073709551615\n",
+    ),
     (Op::Free { place: 2 }, 1, 0, "0.0 heap free 2 = 1\n"),
     (Op::Print { word: 7 }, 0, 0, "0.0 print 7\n"),
 ];
@@ -315,7 +406,7 @@ fn cut_lines_are_bad(rt: HostRuntime) -> Result<(), Fail> {
 #[test]
 fn bad_texts_are_bad_in_their_line(rt: HostRuntime) -> Result<(), Fail> {
     let alloc = rt.alloc();
-    for (text, want) in BAD {
+    for (text, want) in TEXTS {
         assert_eq!(rt; bad_line(alloc, text.as_bytes())?, want, "{text}");
     }
     for line in BAD_LINES {

@@ -23,7 +23,10 @@ pub enum NamedEntry {
         reply: Words,
     },
     /// A task prints a word.
-    Print { task: TaskId, word: u64 },
+    Print {
+        task: TaskId,
+        word: u64,
+    },
     /// A task starts another one.
     Spawn {
         task: TaskId,
@@ -33,7 +36,9 @@ pub enum NamedEntry {
         child: TaskId,
     },
     /// A task opens a `finish`.
-    Finish { task: TaskId },
+    Finish {
+        task: TaskId,
+    },
     /// A task opens a `forall`.
     Loop {
         task: TaskId,
@@ -50,11 +55,18 @@ pub enum NamedEntry {
         child: TaskId,
     },
     /// A task passes the end of its `finish` or `forall`.
-    Pass { task: TaskId },
+    Pass {
+        task: TaskId,
+    },
     /// A task ends.
-    End { task: TaskId },
+    End {
+        task: TaskId,
+    },
     /// A task is trapped.
-    Trap { task: TaskId, kind: TrapKind },
+    Trap {
+        task: TaskId,
+        kind: TrapKind,
+    },
     /// All work has ended.
     Over,
 }

@@ -71,7 +71,10 @@ fn put_entry(out: &mut Vec<u8>, tables: &Tables, entry: &Entry) -> Result<(), Al
             target,
             args,
             child,
-        } => put_start(out, *task, *how, tables.task(*target), args.as_slice(), *child),
+        } => {
+            let name = tables.task(*target);
+            put_start(out, *task, *how, name, args.as_slice(), *child)
+        }
         Entry::Finish { task } => put_mark(out, *task, "finish"),
         Entry::Loop {
             task,
@@ -80,7 +83,10 @@ fn put_entry(out: &mut Vec<u8>, tables: &Tables, entry: &Entry) -> Result<(), Al
             grain,
             target,
             args,
-        } => put_loop(out, *task, *lo, *hi, *grain, tables.task(*target), args.as_slice()),
+        } => {
+            let name = tables.task(*target);
+            put_loop(out, *task, *lo, *hi, *grain, name, args.as_slice())
+        }
         Entry::Begin {
             owner,
             index,

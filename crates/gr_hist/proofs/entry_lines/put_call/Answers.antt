@@ -7,5 +7,5 @@ pub returns-clause-text : goal.returns-clause-text
 returns-clause-text c =
     subst (λ (x : List ℕ). OnOk c.put_text.result (c.put_text.new.out.items ≡ x))
     (call_written c.args.out.now.items (id_bytes c.args.task) c.args.object.now (operation_word c.args.op) (reducer_part c.args.reducer) (map decimal c.args.numbers.now) (reply_part c.args.reply.now) _ _ _ _ _ _
-        c.in_ok-put_id.ensures.text c.in_ok-put_word.ensures (search rules) c.in_ok-put_reducer.ensures c.in_ok-put_numbers.ensures.text c.in_ok-put_reply.ensures.text)
+    c.in_ok-put_id.ensures.text c.in_ok-put_word.ensures (search rules) c.in_ok-put_reducer.ensures c.in_ok-put_numbers.ensures.text c.in_ok-put_reply.ensures.text)
     c.put_text.ensures

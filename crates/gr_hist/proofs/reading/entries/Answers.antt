@@ -1,4 +1,4 @@
-use Rattle.std.proofs.Common.{rules, arith, ◌∙◌, sym, subst, ap, List, append-nil, Ok, ◌+◌, length, []}
+use Rattle.std.proofs.Common.{rules, arith, ◌∙◌, sym, subst, ap, List, append-nil, Ok, []}
 use Rattle.gr_hist.specs.declared.text.NamedEntry.{NamedEntry}
 use Rattle.gr_hist.specs.Grammar.{Lines, ReadsLines, with_front}
 use Rattle.gr_hist.specs.Lines.{SaysLine}
