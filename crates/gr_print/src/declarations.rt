@@ -10,7 +10,6 @@ use gr_lang::syntax::{Item, Name, Number, Stmt};
 use std::alloc::AllocError;
 use std::fmt::Write;
 
-/// Writes the first words of an array.
 fn write_input(out: &mut String, name: &Name, values: &[Number]) -> Result<(), AllocError>
     ensures { OnOk result (string_bytes out.new ≡ string_bytes out.old ++ bytes_of (spec.input name.now values.now)) }
 {
@@ -19,7 +18,6 @@ fn write_input(out: &mut String, name: &Name, values: &[Number]) -> Result<(), A
     out.push_str(";")
 }
 
-/// Writes a task, in a line with no margin.
 fn write_task(
     out: &mut String,
     margin: &Margin,

@@ -20,14 +20,12 @@ fn write_right(out: &mut String, right: &Right) -> Result<(), AllocError>
     }
 }
 
-/// Writes `let` before fresh targets.
 fn write_let(out: &mut String, fresh: bool) -> Result<(), AllocError>
     ensures { OnOk result (string_bytes out.new ≡ string_bytes out.old ++ bytes_of (spec.let_word fresh)) }
 {
     if fresh { out.push_str("let ") } else { Ok(()) }
 }
 
-/// Writes targets, and what they are set to.
 fn write_assignment(
     out: &mut String,
     fresh: bool,
