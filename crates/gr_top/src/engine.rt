@@ -1,5 +1,5 @@
 //! From options and a text to an answer that is whole before a byte is written.
-ghost use Rattle.std.specs.Prelude.{◌≡◌, ◌≤◌, ◌^◌, ◌++◌, length, true, IfOk, IfSome, OnOk, None, Some};
+ghost use Rattle.std.specs.Prelude.{◌≡◌, ◌++◌, true, IfOk, IfSome, OnOk, None, Some};
 ghost use Rattle.gr_lang.specs.declared.syntax.Program.{Program};
 ghost use Rattle.gr_top.specs.Commands.{is_on_text, is_run as is_run_today};
 ghost use Rattle.gr_top.specs.Due.{Reading, accepted as accepted_as, not_built as not_built_fault, due_read, due_accepted, due_run, due_of_run, due_refused, followed, told, IsWritten};
@@ -173,7 +173,6 @@ fn accepted(alloc: Global, options: Options, program: &Accepted) -> Result<Answe
 
 /// The answer to a command on a program text.
 pub(crate) fn run_text(alloc: Global, options: Options, text: &[u8]) -> Result<Answer, AllocError>
-    requires { length text.now ≤ 2 ^ 26 }
     ensures due { IfOk result (λ a. (reading : Reading) × ReadsAs text.now reading × (made a ≡ due_read options reading a.world)) }
     ensures world { IfOk result (λ a. IfSome a.world (λ world. (p : Program) × ReadsAs text.now (accepted_as p) × IsRunOf options p world)) }
     ensures written { IfOk result (λ a. IsWritten a.refusal) }

@@ -1,5 +1,5 @@
 //! From a text to an accepted program, or to its first fault.
-ghost use Rattle.std.specs.Prelude.{◌≡◌, ◌≤◌, ◌^◌, length, true, IfOk, Ok};
+ghost use Rattle.std.specs.Prelude.{◌≡◌, true, IfOk, Ok};
 ghost use Rattle.gr_lang.specs.Targets.{targets_fit};
 ghost use Rattle.gr_parse.specs.Grammar.{IsProgramOf, Says};
 ghost use Rattle.gr_text.specs.Text.{Reads, IsFaultOf};
@@ -103,7 +103,6 @@ fn checked(
 
 /// What the text reads as: tokens, then grammar, then checker.
 pub(crate) fn read_text(alloc: Global, text: &[u8]) -> Result<TextRead, AllocError>
-    requires { length text.now ≤ 2 ^ 26 }
     ensures { IfOk result (λ read. ReadsAs text.now (reading_of read)) }
 {
     let found = tokens(alloc, text);

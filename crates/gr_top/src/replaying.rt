@@ -1,5 +1,5 @@
 //! From a source with a program text and a history text to the verdict on the history.
-ghost use Rattle.std.specs.Prelude.{◌≡◌, ◌≤◌, ◌^◌, ℕ, List, length, string_bytes, IfOk, None};
+ghost use Rattle.std.specs.Prelude.{◌≡◌, ℕ, List, string_bytes, IfOk, None};
 ghost use Rattle.gr_replay.specs.Division.{program_part, history_part};
 ghost use Rattle.gr_replay.specs.Judged.{Verdict, Judged};
 ghost use Rattle.gr_top.specs.Due.{Replayed as Finding, accepted as accepted_as, due_judged, due_replayed, IsWritten};
@@ -80,7 +80,6 @@ fn replayed(alloc: Global, program: &Accepted, history: &[u8]) -> Result<Answer,
 
 /// The answer to a source with a program text and a history text, divided by the first line that is `---`.
 pub(crate) fn replay_source(alloc: Global, source: &[u8]) -> Result<Answer, AllocError>
-    requires { length source.now ≤ 2 ^ 26 }
     ensures due { IfOk result (λ a. (r : Finding) × ReplaysAs (program_part source.now) (history_part source.now) r × (made a ≡ due_replayed r)) }
     ensures written { IfOk result (λ a. IsWritten a.refusal) }
     ensures world { IfOk result (λ a. a.world ≡ None) }
