@@ -8,12 +8,12 @@ use Rattle.gr_lang.specs.declared.syntax.CallText.{CallText}
 use Rattle.gr_lang.specs.declared.syntax.Stmt.{Stmt, the_lemmas}
 use Rattle.gr_lang.specs.declared.syntax.Stmt.TheVariants as s
 use Rattle.gr_lang.specs.Declarations.{Meaning}
-use Rattle.gr_lang.specs.Walks.{Look, only, both, all, closed, targets, expr_sites, call_sites, right_sites, spawn_sites, forall_sites, stmt, stmts}
+use Rattle.gr_lang.specs.Walks.{Part, only, both, all, closed, targets, expr_sites, call_sites, right_sites, spawn_sites, forall_sites, stmt, stmts}
 use Rattle.gr_checker.specs.Walked.{scope_of, after}
 use Rattle.gr_checker.specs.declared.walk.Walk.{Walk}
 use Rattle.gr_checker.proofs.Leasts.{seen-append}
 
-pub after-both : (m : Meaning) (w : Walk) (f g : Look) → after m w (both f g) ≡ after m (after m w f) g
+pub after-both : (m : Meaning) (w : Walk) (f g : Part) → after m w (both f g) ≡ after m (after m w f) g
 after-both m w f g = ap
     (λ x. record { found = x; named = (g (f (scope_of w)).scope).scope.named; visible = (g (f (scope_of w)).scope).scope.visible })
     (seen-append m w.found (f (scope_of w)).sites (g (f (scope_of w)).scope).sites)

@@ -11,7 +11,8 @@ use Rattle.gr_hist.specs.declared.text.NamedEntry.TheVariants as entry
 use Rattle.gr_hist.specs.Names.{Bytes, is_object_name}
 use Rattle.gr_hist.specs.Grammar.{IsEntry, IsId}
 use Rattle.gr_hist.specs.Reading.{act_of, begin_of, by_operation, call_of, child_of, end_of, entry_of, finish_of, id_of, loop_of, mark_of, number_of, offer_of, other_of, print_of, spawn_of, trap_entry, trap_of}
-use Rattle.gr_hist.specs.Spelling.{child_part, id_bytes, operation_word, parts_of, reducer_part, reply_part, trap_word}
+use Rattle.gr_hist.specs.Spelling.{child_part, id_bytes, operation_word, parts_of, reducer_part, reply_part}
+use Rattle.gr_lang.specs.Traps.{trap_word}
 use Rattle.gr_hist.proofs.Calling.{call_found, call_only}
 use Rattle.gr_hist.proofs.Numerals.{number_found, number_only}
 use Rattle.gr_hist.proofs.Options.{either, if_some, map_some, same_some, then_some}

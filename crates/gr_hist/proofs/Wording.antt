@@ -9,7 +9,8 @@ use Rattle.gr_lang.specs.declared.operation.Operation.TheVariants as o
 use Rattle.gr_lang.specs.Operations.{operation_of, reducer_of}
 use Rattle.gr_hist.specs.Names.{Bytes}
 use Rattle.gr_hist.specs.Reading.{first_with, number_of, trap_of}
-use Rattle.gr_hist.specs.Spelling.{operation_word, reducer_word, trap_word}
+use Rattle.gr_hist.specs.Spelling.{operation_word, reducer_word}
+use Rattle.gr_lang.specs.Traps.{trap_word}
 use Rattle.gr_hist.proofs.Cutting.{Over}
 use Rattle.gr_hist.proofs.Options.{either, same_some, some_none}
 

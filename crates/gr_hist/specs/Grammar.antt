@@ -9,7 +9,8 @@ use Rattle.gr_hist.specs.declared.text.NamedEntry.TheVariants as entry
 use Rattle.gr_hist.specs.declared.text.HistoryText.{HistoryText}
 use Rattle.gr_hist.specs.declared.text.HistError.{HistError}
 use Rattle.gr_hist.specs.declared.text.HistError.TheVariants as error
-use Rattle.gr_hist.specs.Names.{Bytes, is_name, is_object_name}
+use Rattle.gr_lang.specs.Names.{is_name}
+use Rattle.gr_hist.specs.Names.{Bytes, is_object_name}
 use Rattle.gr_hist.specs.Spelling.{parts_of, header_parts, line_of}
 
 -- A number that a line can have.

@@ -14,7 +14,8 @@ use Rattle.gr_hist.specs.declared.text.NamedEntry.{NamedEntry}
 use Rattle.gr_hist.specs.declared.text.NamedEntry.TheVariants as entry
 use Rattle.gr_hist.specs.declared.fields.LineError.{LineError}
 use Rattle.gr_hist.specs.declared.fields.LineError.TheVariants as error
-use Rattle.gr_hist.specs.Names.{Bytes, is_name, is_object_name}
+use Rattle.gr_lang.specs.Names.{is_name}
+use Rattle.gr_hist.specs.Names.{Bytes, is_object_name}
 
 -- The answer is this value, or `Bad` where there is none. Want of memory says nothing of it.
 abbrev pub Gives : {A : Type 0} → Option A → Result A LineError → Type 0

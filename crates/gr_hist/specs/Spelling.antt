@@ -4,10 +4,9 @@ use Rattle.std.specs.List.{join_with_byte}
 use Rattle.gr_lang.specs.declared.action.TaskId.{TaskId}
 use Rattle.gr_lang.specs.declared.action.How.{How}
 use Rattle.gr_lang.specs.declared.action.How.TheVariants as how
-use Rattle.gr_lang.specs.declared.action.TrapKind.{TrapKind}
-use Rattle.gr_lang.specs.declared.action.TrapKind.TheVariants as trap
 use Rattle.gr_lang.specs.declared.operation.Operation.{Operation}
 use Rattle.gr_lang.specs.declared.operation.Operation.TheVariants as o
+use Rattle.gr_lang.specs.Traps.{trap_word}
 use Rattle.gr_hist.specs.declared.text.NamedEntry.{NamedEntry}
 use Rattle.gr_hist.specs.declared.text.NamedEntry.TheVariants as entry
 use Rattle.gr_hist.specs.Names.{Bytes}
@@ -42,13 +41,6 @@ reducer_word k =
     if k == 4 then codes "and" else
     if k == 5 then codes "xor" else
     if k == 6 then codes "first" else codes "last"
-
--- The word of a trap.
-abbrev pub trap_word : TrapKind → Bytes
-trap_word trap.Div = codes "div"
-trap_word trap.Place = codes "place"
-trap_word trap.Core = codes "core"
-trap_word trap.Steps = codes "steps"
 
 -- A task's core and number, with a point between them.
 abbrev pub id_bytes : TaskId → Bytes

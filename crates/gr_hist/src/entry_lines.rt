@@ -8,7 +8,7 @@ use crate::putting::{
     put_child, put_how, put_id, put_number, put_numbers, put_range, put_reducer, put_reply,
     put_text, put_word,
 };
-use crate::words::{operation_word, trap_word};
+use crate::words::operation_word;
 use gr_lang::action::{How, TaskId, TrapKind};
 use gr_lang::operation::Operation;
 use std::alloc::AllocError;
@@ -120,6 +120,6 @@ pub fn put_trap(out: &mut Vec<u8>, task: TaskId, kind: TrapKind) -> Result<(), A
 {
     put_id(out, task)?;
     put_text(out, " trap ")?;
-    put_text(out, trap_word(kind))?;
+    put_text(out, kind.word())?;
     put_text(out, "\n")
 }

@@ -2,7 +2,7 @@
 ghost use Rattle.std.specs.Prelude.{◌≡◌, ◌<◌, Some, MatchResult};
 ghost use Rattle.gr_lang.specs.Operations.{operation_of, reducer_of};
 ghost use Rattle.gr_hist.specs.Reading.{Gives, first_with, trap_of};
-ghost use Rattle.gr_hist.specs.Spelling.{operation_word, reducer_word, trap_word};
+ghost use Rattle.gr_hist.specs.Spelling.{operation_word, reducer_word};
 
 use crate::fields::{LineError, is_text};
 use gr_lang::action::TrapKind;
@@ -112,18 +112,6 @@ pub fn reducer_named(word: &[u8]) -> Result<u64, LineError>
     match found {
         Some(reducer) => Ok(reducer),
         None => Err(LineError::Bad),
-    }
-}
-
-/// The word of a trap.
-pub fn trap_word(kind: TrapKind) -> &'static str
-    ensures { result.now ≡ trap_word kind }
-{
-    match kind {
-        TrapKind::Div => "div",
-        TrapKind::Place => "place",
-        TrapKind::Core => "core",
-        TrapKind::Steps => "steps",
     }
 }
 

@@ -1,5 +1,6 @@
 pub mod Faults
 pub mod Operations
+pub mod Traps
 pub mod Fields
 pub mod Locals
 pub mod Expressions

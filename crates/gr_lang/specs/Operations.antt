@@ -38,6 +38,15 @@ reducer_of name =
     if bytes_eq name (codes "first") then Some 6 else
     if bytes_eq name (codes "last") then Some 7 else None
 
+-- Whether the operation is one on the words of an array or the heap.
+abbrev pub is_on_words : Operation → Bool
+is_on_words o.Read = true
+is_on_words o.Write = true
+is_on_words o.Add = true
+is_on_words o.Cas = true
+is_on_words o.Reduce = true
+is_on_words _ = false
+
 abbrev pub has_words : Declared → Bool
 has_words (d.Array words) = true
 has_words d.Heap = true

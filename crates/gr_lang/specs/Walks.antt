@@ -57,56 +57,59 @@ forall_sites lo hi grain target args visible =
 
 -- Parts that may give names.
 
-pub record Scope : Type 0 where
+-- What a task's names are at a place of its text.
+pub record LexicalScope : Type 0 where
   pub named : List (List ℕ)  -- the names that the task has so far
   pub visible : List (List ℕ)  -- those of them that are visible
 
 -- The sites of a part, and the scope after it.
 pub record Seen : Type 0 where
   pub sites : List Site
-  pub scope : Scope
+  pub scope : LexicalScope
 
-abbrev pub Look : Type 0
-Look = Scope → Seen
+-- A part of a task's text: what is seen in it, from the scope in front of it.
+abbrev pub Part : Type 0
+Part = LexicalScope → Seen
 
 -- A part that gives no name.
-abbrev pub only : (List (List ℕ) → List Site) → Look
+abbrev pub only : (List (List ℕ) → List Site) → Part
 only f s = record { sites = f s.visible; scope = s }
 
 -- One part, then another in the scope after it.
-abbrev pub both : Look → Look → Look
+abbrev pub both : Part → Part → Part
 both f g s = record { sites = (f s).sites ++ (g (f s).scope).sites; scope = (g (f s).scope).scope }
 
-abbrev pub all : List Look → Look
+-- Some parts, one after another.
+abbrev pub all : List Part → Part
 all [] = only (λ visible. [])
 all (f ∷ fs) = both f (all fs)
 
 -- The names that a block gives stay the task's, and are visible to the end of the block.
-abbrev pub closed : Look → Look
+abbrev pub closed : Part → Part
 closed f s = record { sites = (f s).sites; scope = record { named = (f s).scope.named; visible = s.visible } }
 
-abbrev pub block : List Look → Look
+abbrev pub block : List Part → Part
 block fs = closed (all fs)
 
 -- A parameter or `let` target gives its name.
-abbrev pub given : Name → Look
+abbrev pub given : Name → Part
 given n s = record {
   sites = gives n s.named ∷ [];
   scope = record { named = with_name s.named n.text; visible = with_name s.visible n.text };
 }
 
-abbrev pub givens : List Name → Look
+abbrev pub givens : List Name → Part
 givens [] = only (λ visible. [])
 givens (n ∷ ns) = both (given n) (givens ns)
 
 -- The targets of an assignment: `let` gives them, else they are locals of the task.
-abbrev pub targets : Bool → List Name → Look
+abbrev pub targets : Bool → List Name → Part
 targets true names = givens names
 targets false names = only (λ visible. locals_sites visible names)
 
 -- A statement, of whose blocks the statements are looked at already. The right side of `=` comes before the targets, so a
 -- `let` name is visible from the end of its statement.
-abbrev pub stmt_step : Stmt-F Look → Look
+abbrev pub stmt_step : Stmt-F Part → Part
 stmt_step (Stmt-F.Set1 fresh names right) = both (only (right_sites names right)) (targets fresh names)
 stmt_step (Stmt-F.Do call) = only (call_sites [] call)
 stmt_step (Stmt-F.Print value) = only (λ visible. expr_sites visible value)
@@ -116,15 +119,15 @@ stmt_step (Stmt-F.Finish body) = block body
 stmt_step (Stmt-F.Spawn how target args) = only (spawn_sites how target args)
 stmt_step (Stmt-F.Forall lo hi grain target args) = only (forall_sites lo hi grain target args)
 
-unfoldable pub stmt : Stmt → Look
-stmt = fold-Stmt Look stmt_step
+unfoldable pub stmt : Stmt → Part
+stmt = fold-Stmt Part stmt_step
 
-abbrev pub stmts : List Stmt → Look
+abbrev pub stmts : List Stmt → Part
 stmts [] = only (λ visible. [])
 stmts (s ∷ ss) = both (stmt s) (stmts ss)
 
 -- A task's parameters are visible in its whole body.
-abbrev pub body_look : List Name → List Stmt → Look
+abbrev pub body_look : List Name → List Stmt → Part
 body_look params body = both (givens params) (stmts body)
 
 abbrev pub body_sites : List Name → List Stmt → List Site

@@ -1,6 +1,7 @@
 //! What tasks do: operations with their words, actions, and the entries of a history.
 ghost use Rattle.std.specs.Prelude.{◌≡◌, IfOk};
 ghost use Rattle.gr_lang.specs.Fields.{same_op, same_reply, same_how, same_trap};
+ghost use Rattle.gr_lang.specs.Traps.{trap_word};
 
 use crate::lists::Words;
 use std::alloc::AllocError;
@@ -324,6 +325,18 @@ impl How {
 }
 
 impl TrapKind {
+    /// The word by which it is told.
+    pub fn word(self) -> &'static str
+        ensures { result.now ≡ trap_word self }
+    {
+        match self {
+            TrapKind::Div => "div",
+            TrapKind::Place => "place",
+            TrapKind::Core => "core",
+            TrapKind::Steps => "steps",
+        }
+    }
+
     /// Whether both are the same kind.
     pub fn is(&self, other: &TrapKind) -> bool
         ensures { result ≡ same_trap self.now other.now }

@@ -4,6 +4,7 @@
 
 pub mod accepted;
 pub mod action;
+pub mod calls;
 pub mod lists;
 pub mod operation;
 pub mod refusal;

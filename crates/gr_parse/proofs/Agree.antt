@@ -15,7 +15,8 @@ use Rattle.gr_lang.specs.declared.syntax.Item.TheVariants as items
 use Rattle.gr_text.specs.declared.token.Keyword.TheVariants as keys
 use Rattle.gr_text.specs.declared.token.Sign.TheVariants as signs
 use Rattle.gr_parse.specs.Tok.{Tok, is_sign, is_key, name_of, heap_of}
-use Rattle.gr_parse.specs.Parsing.{Toks, max_nesting, no_room, array, named_item, named_right, heap_right, right_by, right_side, one_target, two_targets, assignment, let_statement, named_statement, heap_statement, print, else_block, if_statement, while_statement, finish, started, spawn, forall_task, forall_statement, plain_statement, key_statement, heap_or, name_or, statement_with, braces, statement, block, input, params, task, key_item, item_by, item, never, program}
+use Rattle.gr_parse.specs.Operands.{Toks, max_nesting, no_room}
+use Rattle.gr_parse.specs.Parsing.{array, named_item, named_right, heap_right, right_by, right_side, one_target, two_targets, assignment, let_statement, named_statement, heap_statement, print, else_block, if_statement, while_statement, finish, started, spawn, forall_task, forall_statement, plain_statement, key_statement, heap_or, name_or, statement_with, braces, statement, block, input, params, task, key_item, item_by, item, never, program}
 use Rattle.gr_parse.specs.Grammar.{IsObject, IsBlock, IsStmt, IsProgram}
 use Rattle.gr_parse.proofs.Exprs.{expr_meets}
 use Rattle.gr_parse.proofs.Calls.{name_meets, args_meets, operation_meets, method_meets, call_meets, numbers_meets}

@@ -13,7 +13,7 @@ use Rattle.gr_lang.specs.declared.syntax.Expr.TheVariants as tree
 use Rattle.gr_lang.specs.declared.syntax.CallText.{CallText}
 use Rattle.gr_text.specs.declared.token.Sign.TheVariants as signs
 use Rattle.gr_parse.specs.Tok.{Tok, is_sign, name_of, number_of}
-use Rattle.gr_parse.specs.Parsing.{Toks, name, number, semicolon, expr, args, some_name, reducer, call_of, operation, method, call}
+use Rattle.gr_parse.specs.Operands.{Toks, name, number, semicolon, expr, args, some_name, reducer, call_of, operation, method, call}
 use Rattle.gr_parse.specs.Grammar.{IsExpr, IsName, IsNumber, IsArgs, IsObject, IsOperation, IsCall}
 use Rattle.gr_parse.proofs.TokenTests.{sign_test, missing_test, name_is, number_is, object_is}
 use Rattle.gr_parse.proofs.Exprs.{expr_meets, nought, nought_is}

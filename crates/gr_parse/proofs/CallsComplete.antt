@@ -14,7 +14,7 @@ use Rattle.gr_lang.specs.declared.syntax.CallText.{CallText}
 use Rattle.gr_text.specs.declared.token.Keyword.{Keyword}
 use Rattle.gr_text.specs.declared.token.Sign.TheVariants as signs
 use Rattle.gr_parse.specs.Tok.{Tok, is_sign, same_sign, name_of, number_of, object_of, sign_of, operator}
-use Rattle.gr_parse.specs.Parsing.{Toks, name, number, semicolon, expr, args, some_name, reducer, call_of, operation, method, call}
+use Rattle.gr_parse.specs.Operands.{Toks, name, number, semicolon, expr, args, some_name, reducer, call_of, operation, method, call}
 use Rattle.gr_parse.specs.Grammar.{IsUnary, IsLevel, IsComparison, IsExpr, IsName, IsNumber, IsArgs, IsOperation, IsCall}
 use Rattle.gr_parse.proofs.TokenTests.{sign_test, missing_test, object_means}
 use Rattle.gr_parse.proofs.Exprs.{expr_meets, nought, nought_is}

@@ -13,7 +13,7 @@ use Rattle.gr_lang.specs.declared.syntax.Expr.{Expr}
 use Rattle.gr_lang.specs.declared.syntax.Expr.TheVariants as tree
 use Rattle.gr_text.specs.declared.token.Sign.TheVariants as signs
 use Rattle.gr_parse.specs.Tok.{Tok, sign_of, atom_of, operator}
-use Rattle.gr_parse.specs.Parsing.{Toks, Counted, negation, two, atom, comparing, comparison, group, unary, expr, expr_from, loosest, max_signs}
+use Rattle.gr_parse.specs.Operands.{Toks, Counted, negation, two, atom, comparing, comparison, group, unary, expr, expr_from, loosest, max_signs}
 use Rattle.gr_parse.specs.Grammar.{IsUnary, IsLevel, IsComparison, IsExpr}
 use Rattle.gr_parse.proofs.TokenTests.{sign_test, operator_is, operator_own, IsOperator}
 

@@ -14,7 +14,8 @@ use Rattle.gr_lang.specs.declared.syntax.Item.TheVariants as items
 use Rattle.gr_text.specs.declared.token.Keyword.TheVariants as keys
 use Rattle.gr_text.specs.declared.token.Sign.TheVariants as signs
 use Rattle.gr_parse.specs.Tok.{Tok, is_sign, same_sign, same_key}
-use Rattle.gr_parse.specs.Parsing.{Toks, max_nesting, name, number, semicolon, array, named_item, heap_item, input, params, task, key_item, item, never, program, block}
+use Rattle.gr_parse.specs.Operands.{Toks, max_nesting, name, number, semicolon}
+use Rattle.gr_parse.specs.Parsing.{array, named_item, heap_item, input, params, task, key_item, item, never, program, block}
 use Rattle.gr_parse.specs.Grammar.{IsName, IsNumber, IsBlock, IsItem, IsProgram}
 use Rattle.gr_parse.proofs.TokenTests.{sign_test}
 use Rattle.gr_parse.proofs.Complete.{Any}

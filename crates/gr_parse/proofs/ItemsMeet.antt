@@ -14,7 +14,8 @@ use Rattle.gr_lang.specs.declared.syntax.Item.TheVariants as items
 use Rattle.gr_text.specs.declared.token.Keyword.TheVariants as keys
 use Rattle.gr_text.specs.declared.token.Sign.TheVariants as signs
 use Rattle.gr_parse.specs.Tok.{Tok, heap_of}
-use Rattle.gr_parse.specs.Parsing.{Toks, max_nesting, array, named_item, heap_item, input, params, task, key_item, item_by, item, never, program}
+use Rattle.gr_parse.specs.Operands.{Toks, max_nesting}
+use Rattle.gr_parse.specs.Parsing.{array, named_item, heap_item, input, params, task, key_item, item_by, item, never, program}
 use Rattle.gr_parse.specs.Grammar.{IsName, IsNumber, IsBlock, IsItem, IsProgram}
 use Rattle.gr_parse.proofs.TokenTests.{sign_test, key_test}
 use Rattle.gr_parse.proofs.Exprs.{nought}

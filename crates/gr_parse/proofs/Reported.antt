@@ -17,7 +17,8 @@ use Rattle.gr_parse.specs.declared.fault.Stop.{Stop}
 use Rattle.gr_parse.specs.declared.fault.Stop.TheVariants as stops
 use Rattle.gr_parse.specs.Tok.{Tok, toks}
 use Rattle.gr_parse.specs.Sound.{AreSound}
-use Rattle.gr_parse.specs.Parsing.{Toks, Fails, Gives, program, plenty}
+use Rattle.gr_parse.specs.Operands.{Toks, plenty}
+use Rattle.gr_parse.specs.Parsing.{Fails, Gives, program}
 use Rattle.gr_parse.specs.Grammar.{IsProgramOf, Says}
 use Rattle.gr_parse.specs.Reports.{error_of, error_at, IsWithin, Reports, Stands}
 use Rattle.gr_parse.proofs.Steps.{plenty_is}

@@ -5,7 +5,8 @@ use Rattle.gr_meets.specs.Languages.{Shortens, Takes}
 use Rattle.gr_meets.proofs.Agrees.{shortens, takes}
 use Rattle.gr_parse.specs.declared.fault.Stop.{Stop}
 use Rattle.gr_parse.specs.Tok.{Tok}
-use Rattle.gr_parse.specs.Parsing.{Toks, Gives, name, number, expr, statement, item}
+use Rattle.gr_parse.specs.Operands.{Toks, name, number, expr}
+use Rattle.gr_parse.specs.Parsing.{Gives, statement, item}
 use Rattle.gr_parse.proofs.Calls.{name_meets, number_meets}
 use Rattle.gr_parse.proofs.Exprs.{expr_meets}
 use Rattle.gr_parse.proofs.Stmts.{statement_meets}

@@ -18,7 +18,8 @@ use Rattle.gr_lang.specs.declared.syntax.Stmt.TheVariants as st
 use Rattle.gr_text.specs.declared.token.Keyword.TheVariants as keys
 use Rattle.gr_text.specs.declared.token.Sign.TheVariants as signs
 use Rattle.gr_parse.specs.Tok.{Tok, is_sign, name_of, heap_of}
-use Rattle.gr_parse.specs.Parsing.{Toks, method, named_right, heap_right, right_by, right_side, one_target, two_targets, assignment, let_statement, named_statement, heap_statement, print, else_block, if_statement, while_statement, finish, started, spawned_at, spawn, forall_task, forall_statement, plain_statement, key_statement, heap_or, name_or, statement_with, braces, no_room, statement, block}
+use Rattle.gr_parse.specs.Operands.{Toks, method, no_room}
+use Rattle.gr_parse.specs.Parsing.{named_right, heap_right, right_by, right_side, one_target, two_targets, assignment, let_statement, named_statement, heap_statement, print, else_block, if_statement, while_statement, finish, started, spawned_at, spawn, forall_task, forall_statement, plain_statement, key_statement, heap_or, name_or, statement_with, braces, statement, block}
 use Rattle.gr_parse.specs.Grammar.{IsExpr, IsArgs, IsObject, IsOperation, IsCall, IsRight, IsAssignment, IsHow, IsStmt, IsBlock, IsStmts}
 use Rattle.gr_parse.proofs.TokenTests.{sign_test, key_test, missing_test, name_is, heap_is}
 use Rattle.gr_parse.proofs.Exprs.{nought, nought_is, expr_meets, expr_from_meets}

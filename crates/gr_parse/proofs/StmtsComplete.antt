@@ -22,7 +22,8 @@ use Rattle.gr_text.specs.declared.token.Keyword.{Keyword}
 use Rattle.gr_text.specs.declared.token.Keyword.TheVariants as keys
 use Rattle.gr_text.specs.declared.token.Sign.TheVariants as signs
 use Rattle.gr_parse.specs.Tok.{Tok, is_sign, is_key, same_sign, same_key, heap_name, operator}
-use Rattle.gr_parse.specs.Parsing.{Toks, semicolon, expr, expr_from, args, operation, call, named_right, right_side, one_target, two_targets, assignment, let_statement, done, named_statement, heap_statement, print, else_block, if_statement, while_statement, finish, started, spawned_at, spawn, forall_task, forall_statement, plain_statement, key_statement, statement_with, braces, no_room, statement, block}
+use Rattle.gr_parse.specs.Operands.{Toks, semicolon, expr, expr_from, args, operation, call, no_room}
+use Rattle.gr_parse.specs.Parsing.{named_right, right_side, one_target, two_targets, assignment, let_statement, done, named_statement, heap_statement, print, else_block, if_statement, while_statement, finish, started, spawned_at, spawn, forall_task, forall_statement, plain_statement, key_statement, statement_with, braces, statement, block}
 use Rattle.gr_parse.specs.Grammar.{IsUnary, IsLevel, IsComparison, IsExpr, IsArgs, IsObject, IsOperation, IsCall, IsRight, IsAssignment, IsHow, IsStmt, IsBlock, IsStmts}
 use Rattle.gr_parse.proofs.TokenTests.{sign_test, key_test, missing_test}
 use Rattle.gr_parse.proofs.Complete.{Any, NoOperator, expr_completes, expr_first}

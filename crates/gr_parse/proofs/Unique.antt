@@ -13,7 +13,7 @@ use Rattle.gr_text.specs.declared.token.TokenKind.TheVariants as kinds
 use Rattle.gr_parse.specs.declared.fault.ParseError.{ParseError}
 use Rattle.gr_parse.specs.declared.fault.ParseError.TheVariants as errors
 use Rattle.gr_parse.specs.Tok.{tok_of, toks}
-use Rattle.gr_parse.specs.Parsing.{Toks}
+use Rattle.gr_parse.specs.Operands.{Toks}
 use Rattle.gr_parse.specs.Grammar.{IsProgram, IsProgramOf, Reached, Says}
 use Rattle.gr_parse.specs.Reports.{error_of, error_at}
 use Rattle.gr_parse.proofs.Agree.{exact}

@@ -25,7 +25,7 @@ use Rattle.gr_text.specs.declared.token.Token.{Token}
 use Rattle.gr_parse.specs.declared.fault.ParseError.{ParseError}
 use Rattle.gr_parse.specs.declared.fault.ParseError.TheVariants as errors
 use Rattle.gr_parse.specs.Tok.{Tok, heap_name, sign_of, level_of, toks}
-use Rattle.gr_parse.specs.Parsing.{Toks, call_of, max_nesting, max_signs, loosest}
+use Rattle.gr_parse.specs.Operands.{Toks, call_of, max_nesting, max_signs, loosest}
 
 -- ---- expressions. d: there is room for so many nestings; n: so many binary signs, those in brackets included
 

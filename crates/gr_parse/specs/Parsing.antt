@@ -1,9 +1,7 @@
--- The parser as a specification: what each function of the code reads, from the tokens that are left.
-use Rattle.std.specs.Prelude.{◌≡◌, ℕ, zero, suc, ◌^◌, Bool, true, false, List, [], ◌∷◌, Option, Some, None, Result, Ok, Err}
-use Rattle.gr_meets.specs.Parsers.{Outcome, Parser, ◌>>=◌, ◌>>◌, pure, refuse, skip, expect, either, look, value, run, separated, enclosed, spend, go_on, levels, onward}
+-- The parser as a specification, from statements on: what each function of the code reads, from the tokens that are left.
+use Rattle.std.specs.Prelude.{◌≡◌, ℕ, zero, suc, Bool, true, false, List, [], ◌∷◌, Option, Some, None, Result, Ok, Err}
+use Rattle.gr_meets.specs.Parsers.{Outcome, Parser, ◌>>=◌, ◌>>◌, pure, refuse, skip, expect, either, look, run, separated, enclosed}
 use Rattle.gr_lang.specs.declared.syntax.Name.{Name}
-use Rattle.gr_lang.specs.declared.syntax.Number.{Number}
-use Rattle.gr_lang.specs.declared.syntax.BinOp.{BinOp}
 use Rattle.gr_lang.specs.declared.syntax.Expr.{Expr}
 use Rattle.gr_lang.specs.declared.syntax.Expr.TheVariants as e
 use Rattle.gr_lang.specs.declared.syntax.CallText.{CallText}
@@ -19,108 +17,8 @@ use Rattle.gr_text.specs.declared.token.Keyword.TheVariants as k
 use Rattle.gr_text.specs.declared.token.Sign.TheVariants as s
 use Rattle.gr_parse.specs.declared.fault.Stop.{Stop}
 use Rattle.gr_parse.specs.declared.fault.Stop.TheVariants as stops
-use Rattle.gr_parse.specs.Tok.{Tok, is_sign, is_key, is_missing, name_of, number_of, heap_of, object_of, atom_of, operator}
-
-abbrev pub Toks : Type 0
-Toks = List Tok
-
--- So many nestings are allowed.
-abbrev pub max_nesting : ℕ
-max_nesting = 64
-
--- An expression has at most so many binary signs.
-abbrev pub max_signs : ℕ
-max_signs = 255
-
--- The level of the comparisons, above all others.
-abbrev pub loosest : ℕ
-loosest = 5
-
--- More turns than a text has tokens.
-unfoldable pub plenty : ℕ
-plenty = 2 ^ 64
-
--- ---- names and numbers
-
-unfoldable pub name : Parser Tok Name
-name = value name_of
-
-unfoldable pub number : Parser Tok Number
-number = value number_of
-
-unfoldable pub semicolon : Parser Tok (Unit {0})
-semicolon = expect (is_sign s.Semicolon)
-
--- ---- expressions, each with the number of binary signs that may still come
-
-abbrev pub Counted : Type 0
-Counted = Expr × ℕ
-
-abbrev pub negation : Counted → Counted
-negation x = (e.Not x.0, x.1)
-
-abbrev pub two : BinOp → Expr → Expr → Expr
-two o x y = e.Two o x y
-
--- A number or a local.
-unfoldable pub atom : ℕ → Parser Tok Counted
-atom b = value atom_of >>= λ x. pure (x, b)
-
--- Behind a first operand, a comparison with a second one, if there is one.
-unfoldable pub comparing : (ℕ → Parser Tok Counted) → Counted → Parser Tok Counted
-comparing u x = look (operator loosest) (go_on (pure x) (λ o. spend x.1 (λ b. skip >> (levels operator two u loosest b >>= λ y. pure (two o x.0 y.0, y.1)))))
-
--- All operators.
-unfoldable pub comparison : (ℕ → Parser Tok Counted) → ℕ → Parser Tok Counted
-comparison u b = levels operator two u loosest b >>= comparing u
-
-unfoldable pub group : Parser Tok Counted → Parser Tok Counted
-group inner = inner >>= λ x. expect (is_sign s.RightParen) >> pure x
-
--- An operand, with room for so many nestings.
-unfoldable pub unary : ℕ → ℕ → Parser Tok Counted
-unary zero b = atom b
-unary (suc d) b = either (is_sign s.Bang) (unary d b >>= λ x. pure (negation x)) (either (is_sign s.LeftParen) (group (comparison (unary d) b)) (atom b))
-
--- An expression, with room for so many nestings.
-unfoldable pub expr : ℕ → Parser Tok Expr
-expr d = comparison (unary d) max_signs >>= λ x. pure x.0
-
--- An expression whose first operand was read.
-unfoldable pub expr_from : ℕ → Expr → Parser Tok Expr
-expr_from d x = onward operator two (unary d) loosest (x, max_signs) >>= λ y. comparing (unary d) y >>= λ z. pure z.0
-
--- ---- arguments and calls. The number `turns` bounds the turns of each loop; each turn takes a token.
-
-abbrev pub no_room : {A : Type 0} → Parser Tok (List A)
-no_room = expect is_missing >> pure []
-
--- Arguments, with room for so many nestings.
-unfoldable pub args : ℕ → ℕ → Parser Tok (List Expr)
-args turns zero = no_room
-args turns (suc d) = expect (is_sign s.LeftParen) >> enclosed (is_sign s.RightParen) (is_sign s.Comma) (expr d) turns
-
-abbrev pub some_name : Option Name → Parser Tok (Option Name)
-some_name None = pure None
-some_name (Some n) = skip >> pure (Some n)
-
--- A reducer's name, if there is one.
-unfoldable pub reducer : Parser Tok (Option Name)
-reducer = look name_of some_name
-
-abbrev pub call_of : Name → Name → Option Name → List Expr → CallText
-call_of object op reducer xs = record { object = object; op = op; reducer = reducer; args = xs }
-
--- A call behind its dot.
-unfoldable pub operation : ℕ → ℕ → Name → Parser Tok CallText
-operation turns d object = name >>= λ op. reducer >>= λ r. args turns d >>= λ xs. pure (call_of object op r xs)
-
--- A call behind its object.
-unfoldable pub method : ℕ → ℕ → Name → Parser Tok CallText
-method turns d object = expect (is_sign s.Dot) >> operation turns d object
-
-unfoldable pub call : ℕ → ℕ → Parser Tok CallText
-call turns d = value object_of >>= method turns d
+use Rattle.gr_parse.specs.Tok.{Tok, is_sign, is_key, name_of, heap_of}
+pub use Rattle.gr_parse.specs.Operands.{Toks, max_nesting, max_signs, loosest, plenty, name, number, semicolon, Counted, negation, two, atom, comparing, comparison, group, unary, expr, expr_from, no_room, args, some_name, reducer, call_of, operation, method, call}
 
 -- ---- statements
 

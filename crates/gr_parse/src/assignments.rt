@@ -81,7 +81,7 @@ fn two_names(alloc: Global, first: Name, second: Name) -> Result<Names, AllocErr
 }
 
 /// An assignment to one target, behind `=`.
-#[tactic(auto, unfolding(crate::specs::Parsing::one_target, crate::specs::Parsing::semicolon))]
+#[tactic(auto, unfolding(crate::specs::Parsing::one_target, crate::specs::Operands::semicolon))]
 fn one_target<'a>(
     alloc: Global,
     rest: Rest<'a>,
@@ -103,7 +103,7 @@ fn one_target<'a>(
 }
 
 /// An assignment to two targets, behind the comma.
-#[tactic(auto, unfolding(crate::specs::Parsing::two_targets, crate::specs::Parsing::semicolon))]
+#[tactic(auto, unfolding(crate::specs::Parsing::two_targets, crate::specs::Operands::semicolon))]
 fn two_targets<'a>(
     alloc: Global,
     rest: Rest<'a>,

@@ -19,7 +19,7 @@ use std::alloc::Global;
 const MAX_NESTING: usize = 64;
 
 /// An array behind its keyword.
-#[tactic(auto, unfolding(crate::specs::Parsing::array, crate::specs::Parsing::semicolon))]
+#[tactic(auto, unfolding(crate::specs::Parsing::array, crate::specs::Operands::semicolon))]
 fn array<'a>(alloc: Global, rest: Rest<'a>) -> Result<(Item, Rest<'a>), Stop>
     ensures { Gives (λ x. x) result (spec.array rest.entry) }
 {
@@ -32,7 +32,7 @@ fn array<'a>(alloc: Global, rest: Rest<'a>) -> Result<(Item, Rest<'a>), Stop>
 }
 
 /// The name of an item that has nothing else.
-#[tactic(auto, unfolding(crate::specs::Parsing::named_item, crate::specs::Parsing::semicolon))]
+#[tactic(auto, unfolding(crate::specs::Parsing::named_item, crate::specs::Operands::semicolon))]
 fn named<'a>(alloc: Global, rest: Rest<'a>) -> Result<(Name, Rest<'a>), Stop>
     ensures { (make : NameValue → ItemValue) → Gives (λ x. (make x.0, x.1)) result (spec.named_item make rest.entry) }
 {
@@ -42,7 +42,7 @@ fn named<'a>(alloc: Global, rest: Rest<'a>) -> Result<(Name, Rest<'a>), Stop>
 }
 
 /// The heap behind its keyword.
-#[tactic(auto, unfolding(crate::specs::Parsing::heap_item, crate::specs::Parsing::semicolon))]
+#[tactic(auto, unfolding(crate::specs::Parsing::heap_item, crate::specs::Operands::semicolon))]
 fn heap<'a>(rest: Rest<'a>) -> Result<(Item, Rest<'a>), Stop>
     ensures { Gives (λ x. x) result (spec.heap_item rest.entry) }
 {
@@ -52,7 +52,7 @@ fn heap<'a>(rest: Rest<'a>) -> Result<(Item, Rest<'a>), Stop>
 }
 
 /// The first words of an array, behind `input`.
-#[tactic(auto, unfolding(crate::specs::Parsing::input, crate::specs::Parsing::semicolon))]
+#[tactic(auto, unfolding(crate::specs::Parsing::input, crate::specs::Operands::semicolon))]
 fn input<'a>(alloc: Global, rest: Rest<'a>) -> Result<(Item, Rest<'a>), Stop>
     ensures { Gives (λ x. x) result (spec.input spec.plenty rest.entry) }
 {

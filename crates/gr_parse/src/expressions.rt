@@ -3,7 +3,7 @@
 ghost use Rattle.std.specs.Prelude.{◌≡◌, ℕ, ◌<◌, IfOk};
 ghost use Rattle.gr_meets.specs.Parsers as read;
 ghost use Rattle.gr_parse.specs.Tok as tok;
-ghost use Rattle.gr_parse.specs.Parsing as spec;
+ghost use Rattle.gr_parse.specs.Operands as spec;
 ghost use Rattle.gr_parse.specs.Parsing.{Gives};
 
 use crate::fault::Stop;
@@ -37,7 +37,7 @@ fn negation(alloc: Global, inner: Expr) -> Result<Expr, AllocError>
 }
 
 /// A number or a local.
-#[tactic(auto, unfolding(crate::specs::Parsing::atom, gr_meets::specs::Parsers::value))]
+#[tactic(auto, unfolding(crate::specs::Operands::atom, gr_meets::specs::Parsers::value))]
 fn atom<'a>(alloc: Global, rest: Rest<'a>, signs: usize) -> Result<(Expr, usize, Rest<'a>), Stop>
     ensures { Gives (λ x. ((x.0, x.1), x.2)) result (spec.atom signs rest.entry) }
 {
@@ -50,7 +50,7 @@ fn atom<'a>(alloc: Global, rest: Rest<'a>, signs: usize) -> Result<(Expr, usize,
 /// An operand, with room for so many nestings. `signs` is, here and below, the number of binary signs
 /// that may still come.
 #[cycle(expr)]
-#[tactic(auto, unfolding(crate::specs::Parsing::unary))]
+#[tactic(auto, unfolding(crate::specs::Operands::unary))]
 fn unary<'a>(
     alloc: Global,
     rest: Rest<'a>,
@@ -74,7 +74,7 @@ fn unary<'a>(
 
 /// An expression in brackets, behind the opening one.
 #[cycle(expr)]
-#[tactic(auto, unfolding(crate::specs::Parsing::group))]
+#[tactic(auto, unfolding(crate::specs::Operands::group))]
 fn group<'a>(
     alloc: Global,
     rest: Rest<'a>,
@@ -90,7 +90,7 @@ fn group<'a>(
 
 /// All operators.
 #[cycle(expr)]
-#[tactic(auto, unfolding(crate::specs::Parsing::comparison))]
+#[tactic(auto, unfolding(crate::specs::Operands::comparison))]
 fn comparison<'a>(
     alloc: Global,
     rest: Rest<'a>,
@@ -105,7 +105,7 @@ fn comparison<'a>(
 
 /// Behind a first operand, a comparison with a second one, if there is one.
 #[cycle(expr)]
-#[tactic(auto, unfolding(crate::specs::Parsing::comparing))]
+#[tactic(auto, unfolding(crate::specs::Operands::comparing))]
 fn comparing<'a>(
     alloc: Global,
     rest: Rest<'a>,
@@ -173,7 +173,7 @@ fn chain<'a>(
 }
 
 /// An expression, with room for so many nestings.
-#[tactic(auto, unfolding(crate::specs::Parsing::expr))]
+#[tactic(auto, unfolding(crate::specs::Operands::expr))]
 pub fn expr<'a>(alloc: Global, rest: Rest<'a>, depth: usize) -> Result<(Expr, Rest<'a>), Stop>
     ensures { Gives (λ x. x) result (spec.expr depth rest.entry) }
 {
@@ -201,7 +201,7 @@ fn onward<'a>(
 }
 
 /// An expression whose first operand was read.
-#[tactic(auto, unfolding(crate::specs::Parsing::expr_from))]
+#[tactic(auto, unfolding(crate::specs::Operands::expr_from))]
 pub fn expr_from<'a>(
     alloc: Global,
     rest: Rest<'a>,

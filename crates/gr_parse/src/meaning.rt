@@ -39,6 +39,7 @@ fn same_word(a: Keyword, b: Keyword) -> bool
     a == b
 }
 
+/// Whether the token is this keyword.
 pub fn is_word(token: &Token, word: Keyword) -> bool
     ensures { (text : List ℕ) → result ≡ tok.is_key word (tok_of text token.now) }
 {
@@ -157,6 +158,7 @@ pub fn number_of(token: &Token) -> Option<Number>
     }
 }
 
+/// The place of the keyword `heap`, where the token is that.
 pub fn heap_of(token: &Token) -> Option<Place>
     ensures { (text : List ℕ) → tok.heap_of (tok_of text token.now) ≡ option_map heap_name result }
 {

@@ -24,7 +24,7 @@ fn let_statement<'a>(alloc: Global, rest: Rest<'a>, depth: usize) -> Result<(Stm
 }
 
 /// A statement behind the name that it begins with.
-#[tactic(auto, unfolding(crate::specs::Parsing::named_statement, crate::specs::Parsing::semicolon))]
+#[tactic(auto, unfolding(crate::specs::Parsing::named_statement, crate::specs::Operands::semicolon))]
 pub fn named_statement<'a>(
     alloc: Global,
     rest: Rest<'a>,
@@ -42,7 +42,7 @@ pub fn named_statement<'a>(
 }
 
 /// A statement behind `heap`.
-#[tactic(auto, unfolding(crate::specs::Parsing::heap_statement, crate::specs::Parsing::semicolon))]
+#[tactic(auto, unfolding(crate::specs::Parsing::heap_statement, crate::specs::Operands::semicolon))]
 pub fn heap_statement<'a>(
     alloc: Global,
     rest: Rest<'a>,
@@ -57,7 +57,7 @@ pub fn heap_statement<'a>(
 }
 
 /// A statement behind `print`.
-#[tactic(auto, unfolding(crate::specs::Parsing::print, crate::specs::Parsing::semicolon))]
+#[tactic(auto, unfolding(crate::specs::Parsing::print, crate::specs::Operands::semicolon))]
 fn print<'a>(alloc: Global, rest: Rest<'a>, depth: usize) -> Result<(Stmt, Rest<'a>), Stop>
     ensures { Gives (λ x. x) result (spec.print depth rest.entry) }
 {
@@ -67,7 +67,7 @@ fn print<'a>(alloc: Global, rest: Rest<'a>, depth: usize) -> Result<(Stmt, Rest<
 }
 
 /// A task's name and its arguments.
-#[tactic(auto, unfolding(crate::specs::Parsing::started, crate::specs::Parsing::semicolon))]
+#[tactic(auto, unfolding(crate::specs::Parsing::started, crate::specs::Operands::semicolon))]
 fn started<'a>(
     alloc: Global,
     rest: Rest<'a>,
@@ -105,7 +105,7 @@ fn spawn<'a>(alloc: Global, rest: Rest<'a>, depth: usize) -> Result<(Stmt, Rest<
 }
 
 /// The task of a `forall`, and its arguments.
-#[tactic(auto, unfolding(crate::specs::Parsing::forall_task, crate::specs::Parsing::semicolon))]
+#[tactic(auto, unfolding(crate::specs::Parsing::forall_task, crate::specs::Operands::semicolon))]
 fn forall_task<'a>(
     alloc: Global,
     rest: Rest<'a>,

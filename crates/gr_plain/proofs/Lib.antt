@@ -7,4 +7,3 @@ pub mod Changes
 pub mod Numbers
 pub mod Kept
 pub mod Sizes
-pub mod WorkedRows

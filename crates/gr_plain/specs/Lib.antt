@@ -7,4 +7,3 @@ pub mod Counts
 pub mod MachineView
 pub mod PlainView
 pub mod Laws
-pub mod Worked

@@ -9,10 +9,6 @@ pub mod opening;
 pub mod plain;
 #[cfg(test)]
 mod plain_tests;
-#[cfg(test)]
-mod scope_tests;
 pub mod scopes;
 pub mod tasks;
 pub mod word_stack;
-#[cfg(test)]
-mod worked;

@@ -1,7 +1,7 @@
 -- A token in front of what ends it is the longest token there.
 use Rattle.std.proofs.Common.{◌≡◌, ℕ, suc, ◌+◌, ◌<◌, ◌≤◌, ◌^◌, Bool, true, false, cond, [], ◌∷◌, ◌++◌, length, get_or, Option, Some, None, refl, sym, ap, ◌∙◌, arith}
 use Rattle.std.specs.Prelude.{◌==◌, ◌||◌}
-use Rattle.std.specs.List.{prefix_len}
+use Rattle.std.specs.List.{list_all, prefix_len}
 use Rattle.std.specs.Fmt.{decimal}
 use Rattle.std.specs.Str.Parse.{AllDigits}
 use Rattle.std.proofs.lemmas.Fmt.{decimal_is_IsNumeral}
@@ -12,7 +12,8 @@ use Rattle.gr_text.specs.declared.token.Sign.{Sign}
 use Rattle.gr_text.specs.declared.token.Sign.TheVariants as s
 use Rattle.gr_text.specs.declared.token.TokenKind.TheVariants as kinds
 use Rattle.gr_text.specs.Spelling.{keyword_bytes, sign_bytes}
-use Rattle.gr_text.specs.Text.{Text, HasHead, IsLongest, IsToken, is_letter, is_digit, is_word, are_all}
+use Rattle.gr_lang.specs.Names.{is_letter, is_digit, is_word}
+use Rattle.gr_text.specs.Text.{Text, HasHead, IsLongest, IsToken}
 use Rattle.gr_text.specs.Front.{single_sign, double_sign, or_else, front_sign}
 use Rattle.gr_text.proofs.Found.{number_found, keyword_found, name_found}
 use Rattle.gr_text.proofs.Runs.{and_first, and_second, and_both, run_more}
@@ -25,12 +26,12 @@ abbrev pub Stops : (ℕ → Bool) → Text → Type 0
 Stops p [] = Unit {0}
 Stops p (b ∷ rest) = p b ≡ false
 
-pub run_is : (p : ℕ → Bool) (bytes rest : Text) → are_all p bytes ≡ true → Stops p rest → prefix_len p (bytes ++ rest) ≡ length bytes
+pub run_is : (p : ℕ → Bool) (bytes rest : Text) → list_all p bytes ≡ true → Stops p rest → prefix_len p (bytes ++ rest) ≡ length bytes
 run_is p [] [] h s = refl
 run_is p [] (b ∷ rest) h s = ap (λ (v : Bool). cond v (1 + prefix_len p rest) 0) s
 run_is p (b ∷ bytes) rest h s =
-    let more = run_is p bytes rest (and_second (p b) (are_all p bytes) h) s in
-    run_more p b (bytes ++ rest) (and_first (p b) (are_all p bytes) h) ∙ ap suc more
+    let more = run_is p bytes rest (and_second (p b) (list_all p bytes) h) s in
+    run_more p b (bytes ++ rest) (and_first (p b) (list_all p bytes) h) ∙ ap suc more
 
 -- ---- words
 
@@ -40,7 +41,7 @@ letter_word b h = ap (λ (v : Bool). v || is_digit b) h
 pub name_longest : (text rest : Text) → IsToken kinds.Name text → Stops is_word rest → IsLongest kinds.Name (length text) (text ++ rest)
 name_longest [] rest t h = absurd t
 name_longest (b ∷ bytes) rest t h =
-    name_found (b ∷ bytes ++ rest) (b ∷ bytes) (length (b ∷ bytes)) t.0 (sym (run_is is_word (b ∷ bytes) rest (and_both (is_word b) (are_all is_word bytes) (letter_word b t.0) t.1) h)) (sym (take-append_seam (b ∷ bytes) rest)) t.2
+    name_found (b ∷ bytes ++ rest) (b ∷ bytes) (length (b ∷ bytes)) t.0 (sym (run_is is_word (b ∷ bytes) rest (and_both (is_word b) (list_all is_word bytes) (letter_word b t.0) t.1) h)) (sym (take-append_seam (b ∷ bytes) rest)) t.2
 
 letter_head : (bytes rest : Text) → is_letter (get_or bytes 0 0) ≡ true → HasHead (λ b. is_letter b ≡ true) (bytes ++ rest)
 letter_head [] rest h = absurd cc
@@ -56,17 +57,17 @@ keyword_longest word rest h =
 digit_passes : (b : ℕ) → 48 ≤ b → b ≤ 57 → is_digit b ≡ true
 digit_passes b h k = grind arith
 
-digits_pass : (ds : Text) → AllDigits 10 ds → are_all is_digit ds ≡ true
+digits_pass : (ds : Text) → AllDigits 10 ds → list_all is_digit ds ≡ true
 digits_pass [] h = refl
 digits_pass (d ∷ ds) h =
     let parts = tells_digits.parts d ds h in
-    and_both (is_digit d) (are_all is_digit ds) (digit_passes d parts.0.0 parts.0.1) (digits_pass ds parts.1)
+    and_both (is_digit d) (list_all is_digit ds) (digit_passes d parts.0.0 parts.0.1) (digits_pass ds parts.1)
 
-digit_head : (bytes rest : Text) → 0 < length bytes → are_all is_digit bytes ≡ true → HasHead (λ b. is_digit b ≡ true) (bytes ++ rest)
+digit_head : (bytes rest : Text) → 0 < length bytes → list_all is_digit bytes ≡ true → HasHead (λ b. is_digit b ≡ true) (bytes ++ rest)
 digit_head [] rest some h = absurd (omega arith)
-digit_head (b ∷ bytes) rest some h = and_first (is_digit b) (are_all is_digit bytes) h
+digit_head (b ∷ bytes) rest some h = and_first (is_digit b) (list_all is_digit bytes) h
 
-pub decimal_digits : (n : ℕ) → n < 2 ^ 64 → are_all is_digit (decimal n) ≡ true
+pub decimal_digits : (n : ℕ) → n < 2 ^ 64 → list_all is_digit (decimal n) ≡ true
 decimal_digits n small = digits_pass (decimal n) (decimal_is_IsNumeral n small).0.1
 
 pub decimal_some : (n : ℕ) → n < 2 ^ 64 → 0 < length (decimal n)

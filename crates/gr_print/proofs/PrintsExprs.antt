@@ -10,7 +10,7 @@ use Rattle.gr_lang.specs.declared.syntax.Expr.{Expr}
 use Rattle.gr_lang.specs.declared.syntax.Expr.TheVariants as e
 use Rattle.gr_text.specs.declared.token.Sign.TheVariants as s
 use Rattle.gr_parse.specs.Tok.{Tok, sign_of, level_of}
-use Rattle.gr_parse.specs.Parsing.{Toks, loosest}
+use Rattle.gr_parse.specs.Operands.{Toks, loosest}
 use Rattle.gr_parse.specs.Grammar.{IsUnary, IsLevel, IsComparison, IsExpr}
 use Rattle.gr_print.specs.Unplaced.{unplaced_name, unplaced_number, unplaced_tok, unplaced_expr}
 use Rattle.gr_print.specs.Pieces.{Piece, Layout, name, number, sign}

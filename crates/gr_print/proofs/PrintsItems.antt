@@ -11,7 +11,7 @@ use Rattle.gr_text.specs.declared.token.Keyword.{Keyword}
 use Rattle.gr_text.specs.declared.token.Keyword.TheVariants as k
 use Rattle.gr_text.specs.declared.token.Sign.TheVariants as s
 use Rattle.gr_parse.specs.Tok.{Tok}
-use Rattle.gr_parse.specs.Parsing.{Toks, max_nesting}
+use Rattle.gr_parse.specs.Operands.{Toks, max_nesting}
 use Rattle.gr_parse.specs.Grammar.{IsName, IsNumber, IsItem, IsProgram}
 use Rattle.gr_print.specs.Unplaced.{nowhere, unplaced_name, unplaced_number, unplaced_tok, unplaced_stmt, unplaced_item}
 use Rattle.gr_print.specs.Pieces.{Piece, Layout, name, number, key, sign}

@@ -15,7 +15,7 @@ use Rattle.gr_text.specs.declared.token.Sign.TheVariants as s
 use Rattle.gr_text.specs.declared.token.TokenKind.TheVariants as kinds
 use Rattle.gr_text.specs.Text.{IsToken}
 use Rattle.gr_parse.specs.Tok.{Tok}
-use Rattle.gr_parse.specs.Parsing.{Toks, call_of}
+use Rattle.gr_parse.specs.Operands.{Toks, call_of}
 use Rattle.gr_parse.specs.Grammar.{IsExpr, IsName, IsNumber, IsArgs, IsObject, IsOperation, IsCall}
 use Rattle.gr_print.specs.Unplaced.{nowhere, unplaced_name, unplaced_number, unplaced_tok, unplaced_expr, unplaced_call}
 use Rattle.gr_print.specs.Pieces.{Piece, Layout, name, number, sign, object_tok}

@@ -13,7 +13,7 @@ use Rattle.gr_lang.specs.declared.syntax.Stmt.TheVariants as st
 use Rattle.gr_text.specs.declared.token.Keyword.TheVariants as k
 use Rattle.gr_text.specs.declared.token.Sign.TheVariants as s
 use Rattle.gr_parse.specs.Tok.{Tok}
-use Rattle.gr_parse.specs.Parsing.{Toks}
+use Rattle.gr_parse.specs.Operands.{Toks}
 use Rattle.gr_parse.specs.Grammar.{IsExpr, IsArgs, IsCall, IsRight, IsAssignment, IsHow, IsStmt, IsBlock, IsStmts}
 use Rattle.gr_print.specs.Unplaced.{unplaced_name, unplaced_tok, unplaced_expr, unplaced_call, unplaced_right, unplaced_how, unplaced_stmt}
 use Rattle.gr_print.specs.Pieces.{Piece, Layout, key, sign}

@@ -17,14 +17,16 @@ use Rattle.gr_text.specs.declared.token.TokenKind.{TokenKind}
 use Rattle.gr_text.specs.declared.token.TokenKind.TheVariants as kinds
 use Rattle.gr_text.specs.Places.{place_of}
 use Rattle.gr_text.specs.Spelling.{keyword_bytes, sign_bytes}
-use Rattle.gr_text.specs.Text.{Text, HasHead, IsLongest, IsToken, ReadsFrom, token_at, is_letter, is_digit, is_word, are_all}
+use Rattle.std.specs.List.{list_all}
+use Rattle.gr_lang.specs.Names.{is_letter, is_digit, is_word}
+use Rattle.gr_text.specs.Text.{Text, HasHead, IsLongest, IsToken, ReadsFrom, token_at}
 use Rattle.gr_text.specs.Text as text
 use Rattle.gr_text.proofs.Longest.{IsOther, sign_front}
 use Rattle.gr_text.proofs.Runs.{and_first}
 use Rattle.gr_text.proofs.Signs.{sign_head, some_sign}
 use Rattle.gr_text.proofs.Words.{keyword_head}
 use Rattle.gr_parse.specs.Tok.{Tok, tok_of, tok_of_kind, toks}
-use Rattle.gr_parse.specs.Parsing.{Toks}
+use Rattle.gr_parse.specs.Operands.{Toks}
 use Rattle.gr_parse.proofs.Whole.{toks_more, toks_none}
 use Rattle.gr_print.specs.Unplaced.{unplaced_tok}
 use Rattle.gr_print.specs.Pieces.{Piece, Layout, token_bytes, bytes_of}
@@ -77,9 +79,9 @@ letter_no_half (b ∷ bytes) rest h = (dot b h, equal b h)
     equal : (b : ℕ) → is_letter b ≡ true → (b == 61) ≡ false
     equal b h = grind (arith, nat_tests)
 
-digit_no_half : (bytes rest : Text) → 0 < length bytes → are_all is_digit bytes ≡ true → NoHalf (bytes ++ rest)
+digit_no_half : (bytes rest : Text) → 0 < length bytes → list_all is_digit bytes ≡ true → NoHalf (bytes ++ rest)
 digit_no_half [] rest some h = absurd (omega arith)
-digit_no_half (b ∷ bytes) rest some h = let digit = and_first (is_digit b) (are_all is_digit bytes) h in (dot b digit, equal b digit)
+digit_no_half (b ∷ bytes) rest some h = let digit = and_first (is_digit b) (list_all is_digit bytes) h in (dot b digit, equal b digit)
   where
     dot : (b : ℕ) → is_digit b ≡ true → (b == 46) ≡ false
     dot b h = grind (arith, nat_tests)

@@ -21,7 +21,7 @@ use Rattle.gr_text.specs.declared.token.Keyword.TheVariants as k
 use Rattle.gr_text.specs.declared.token.Sign.{Sign}
 use Rattle.gr_text.specs.declared.token.Sign.TheVariants as s
 use Rattle.gr_parse.specs.Tok.{sign_of, level_of}
-use Rattle.gr_parse.specs.Parsing.{loosest}
+use Rattle.gr_parse.specs.Operands.{loosest}
 use Rattle.gr_print.specs.Pieces.{Piece, Layout, bytes_of, name, number, key, sign, semicolon, heap, object}
 
 -- ---- lists

@@ -6,9 +6,10 @@ use Rattle.gr_text.specs.declared.token.Keyword.TheVariants as k
 use Rattle.gr_text.specs.declared.token.Sign.TheVariants as s
 use Rattle.gr_text.specs.declared.token.Token.{Token}
 use Rattle.gr_text.specs.declared.token.TokenKind.TheVariants as kinds
-use Rattle.gr_text.specs.Text.{IsToken, Reads, most_name}
+use Rattle.gr_lang.specs.Names.{most_name}
+use Rattle.gr_text.specs.Text.{IsToken, Reads}
 use Rattle.gr_parse.specs.Tok.{Tok, is_sign, toks}
-use Rattle.gr_parse.specs.Parsing.{Toks}
+use Rattle.gr_parse.specs.Operands.{Toks}
 use Rattle.gr_parse.specs.Grammar.{IsProgram, IsProgramOf}
 use Rattle.gr_print.specs.Unplaced.{unplaced_item, unplaced_tok, SameButForPlaces}
 

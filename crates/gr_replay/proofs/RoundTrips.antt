@@ -23,7 +23,8 @@ use Rattle.gr_lang.specs.Openings.{TaskText, object_names, tasks_of}
 use Rattle.gr_lang.specs.States.{State, Task, is_going}
 use Rattle.gr_lang.specs.Steps.{step, call_step, called, if_going, when}
 use Rattle.gr_hist.specs.Grammar.{HasNames}
-use Rattle.gr_hist.specs.Names.{is_name, is_object_name}
+use Rattle.gr_lang.specs.Names.{is_name}
+use Rattle.gr_hist.specs.Names.{is_object_name}
 use Rattle.gr_hist.specs.Naming.{IsNamable, call_on, name_at, named, named_call, names_of, object_name, reply_words}
 use Rattle.gr_replay.specs.Entries.{call_at, entry_in, object_named, reply_of, task_named}
 use Rattle.gr_replay.specs.Judged.{Names}

@@ -40,15 +40,6 @@ reply_of [] = nothing
 reply_of (a ∷ []) = reply a 0
 reply_of (a ∷ b ∷ more) = reply a b
 
--- Whether the operation is one on the words of an array or the heap.
-abbrev pub is_on_words : Operation → Bool
-is_on_words n.Read = true
-is_on_words n.Write = true
-is_on_words n.Add = true
-is_on_words n.Cas = true
-is_on_words n.Reduce = true
-is_on_words _ = false
-
 -- An operation that only the heap has names no other object.
 abbrev pub is_at : Operation → ℕ → Bool
 is_at n.Alloc object = object == heap_number

@@ -1,90 +1,16 @@
 //! The entry that a line of a history text names in a program.
-ghost use Rattle.std.specs.Prelude.{◌≡◌, IfOk, is_some, length, slice_index, true};
+ghost use Rattle.std.specs.Prelude.{◌≡◌, IfOk, is_some, length};
 ghost use Rattle.std.specs.Option.{option_and_then, option_map};
-ghost use Rattle.gr_lang.specs.Next.{op_of as operation_with};
-ghost use Rattle.gr_lang.specs.Operations.{works_on};
 ghost use Rattle.gr_replay.specs.Entries as spec;
 
 use crate::names::Names;
 use gr_hist::text::NamedEntry;
 use gr_lang::action::{Entry, How, Op, Reply, TaskId};
+use gr_lang::calls::{op_of, word_at};
 use gr_lang::lists::Words;
 use gr_lang::operation::{HEAP, Operation};
 use gr_lang::syntax::Text;
 use std::alloc::AllocError;
-
-fn word_at(words: &[u64], at: usize) -> u64
-    ensures { result ≡ slice_index words.now at }
-{
-    match words.get(at) {
-        None => 0,
-        Some(word) => *word,
-    }
-}
-
-/// An operation on the words of an array or the heap.
-fn word_op(operation: Operation, object: u64, reducer: u64, numbers: &[u64]) -> Op
-    requires { spec.is_on_words operation ≡ true }
-    ensures { result ≡ operation_with operation object reducer numbers.now }
-{
-    let place = word_at(numbers, 0);
-    let word = word_at(numbers, 1);
-    match operation {
-        Operation::Read => Op::Read { object, place },
-        Operation::Write => Op::Write {
-            object,
-            place,
-            word,
-        },
-        Operation::Add => Op::Add {
-            object,
-            place,
-            word,
-        },
-        Operation::Cas => Op::Cas {
-            object,
-            place,
-            old: word,
-            new: word_at(numbers, 2),
-        },
-        Operation::Reduce => Op::Reduce {
-            object,
-            reducer,
-            place,
-            word,
-        },
-        _ => unreachable!(),
-    }
-}
-
-/// The operation on this object, with its reducer and its numbers.
-fn op_of(operation: Operation, object: u64, reducer: u64, numbers: &[u64]) -> Op
-    ensures { result ≡ operation_with operation object reducer numbers.now }
-{
-    let key = word_at(numbers, 0);
-    let word = word_at(numbers, 1);
-    match operation {
-        Operation::Read | Operation::Write | Operation::Add | Operation::Cas | Operation::Reduce =>
-            word_op(operation, object, reducer, numbers),
-        Operation::Insert => Op::Insert { object, key },
-        Operation::Remove => Op::Remove { object, key },
-        Operation::Has => Op::Has { object, key },
-        Operation::Put => Op::Put { object, key, word },
-        Operation::Merge => Op::Merge {
-            object,
-            reducer,
-            key,
-            word,
-        },
-        Operation::Get => Op::Get { object, key },
-        Operation::Erase => Op::Erase { object, key },
-        Operation::Push => Op::Push { object, word: key },
-        Operation::Pop => Op::Pop { object },
-        Operation::Dequeue => Op::Dequeue { object },
-        Operation::Alloc => Op::Alloc { count: key },
-        Operation::Free => Op::Free { place: key },
-    }
-}
 
 /// Whether so many numbers, reply words and reducers are what the operation takes and gives.
 fn has_counts(op: Operation, reducer: Option<u64>, numbers: &[u64], reply: &[u64]) -> bool

@@ -1,15 +1,15 @@
 //! The action at which a task stands, from the statement that stands first.
 ghost use Rattle.std.specs.Prelude.{◌≡◌, IfOk};
-ghost use Rattle.gr_lang.specs.Next.{acted, call_action as call_action_of, fits as fits_in, how_of as way_of, loop_action as loop_action_of, named_action as named_action_of, op_of as operation_with, print_action as print_action_of, reducer_number as reducer_number_of, spawn_action as spawn_action_of};
+ghost use Rattle.gr_lang.specs.Next.{acted, call_action as call_action_of, fits as fits_in, how_of as way_of, loop_action as loop_action_of, named_action as named_action_of, print_action as print_action_of, reducer_number as reducer_number_of, spawn_action as spawn_action_of};
 ghost use Rattle.gr_lang.specs.Expressions.{values};
 ghost use Rattle.gr_lang.specs.Openings.{opening};
-ghost use Rattle.std.specs.Prelude.{slice_index};
 ghost use Rattle.gr_steps.specs.Ranges.{range_words, ranged};
 
 use crate::expressions::{value_of, values_of};
 use crate::locals::LocalWords;
 use crate::table::Table;
 use gr_lang::action::{Action, How, Op, TrapKind};
+use gr_lang::calls::op_of;
 use gr_lang::operation::{Operation, operation_of, reducer_of};
 use gr_lang::syntax::{CallText, Expr, Exprs, HowText, Name};
 use std::alloc::{AllocError, Global};
@@ -41,76 +41,6 @@ fn reducer_number(reducer: &Option<Name>) -> u64
     match reducer {
         None => 0,
         Some(name) => reducer_of(&name.text).unwrap_or(0),
-    }
-}
-
-fn word_at(words: &[u64], at: usize) -> u64
-    ensures { result ≡ slice_index words.now at }
-{
-    match words.get(at) {
-        None => 0,
-        Some(word) => *word,
-    }
-}
-
-/// The operation on this object, with its reducer and its words.
-fn op_of(operation: Operation, object: u64, reducer: u64, words: &[u64]) -> Op
-    ensures { result ≡ operation_with operation object reducer words.now }
-{
-    let first = word_at(words, 0);
-    let second = word_at(words, 1);
-    let third = word_at(words, 2);
-    match operation {
-        Operation::Read => Op::Read {
-            object,
-            place: first,
-        },
-        Operation::Write => Op::Write {
-            object,
-            place: first,
-            word: second,
-        },
-        Operation::Add => Op::Add {
-            object,
-            place: first,
-            word: second,
-        },
-        Operation::Cas => Op::Cas {
-            object,
-            place: first,
-            old: second,
-            new: third,
-        },
-        Operation::Reduce => Op::Reduce {
-            object,
-            reducer,
-            place: first,
-            word: second,
-        },
-        Operation::Insert => Op::Insert { object, key: first },
-        Operation::Remove => Op::Remove { object, key: first },
-        Operation::Has => Op::Has { object, key: first },
-        Operation::Put => Op::Put {
-            object,
-            key: first,
-            word: second,
-        },
-        Operation::Merge => Op::Merge {
-            object,
-            reducer,
-            key: first,
-            word: second,
-        },
-        Operation::Get => Op::Get { object, key: first },
-        Operation::Erase => Op::Erase { object, key: first },
-        Operation::Push => Op::Push {
-            object,
-            word: first,
-        },
-        Operation::Pop => Op::Pop { object },
-        Operation::Dequeue => Op::Dequeue { object },
-        Operation::Alloc => Op::Alloc { count: first },
-        Operation::Free => Op::Free { place: first },
     }
 }
 

@@ -1,18 +1,19 @@
 -- What the functions of the front find, as their callers use it.
 use Rattle.std.proofs.Common.{◌≡◌, ◌≢◌, ℕ, ◌≤◌, ◌<◌, Bool, true, false, cond, [], ◌∷◌, length, take, sym, ap, subst, ◌∙◌, arith}
 use Rattle.std.specs.Prelude.{◌==◌}
-use Rattle.std.specs.List.{prefix_len}
+use Rattle.std.specs.List.{list_all, prefix_len}
 use Rattle.std.specs.Str.Parse.{digits_value}
 use Rattle.std.proofs.lemmas.List.Sums.{prefix_len-le-length}
 use Rattle.gr_text.specs.declared.token.Keyword.{Keyword}
 use Rattle.gr_text.specs.declared.token.TokenKind.TheVariants as kinds
 use Rattle.gr_text.specs.Spelling.{keyword_bytes}
-use Rattle.gr_text.specs.Text.{Text, HasHead, IsLongest, is_letter, is_digit, is_word, is_white, are_all, blank_len, not_newline}
+use Rattle.gr_lang.specs.Names.{is_letter, is_digit, is_word}
+use Rattle.gr_text.specs.Text.{Text, HasHead, IsLongest, is_white, blank_len, not_newline}
 use Rattle.gr_text.proofs.Longest.{number_front, keyword_front, name_front}
 use Rattle.gr_text.proofs.Runs.{all_pass}
 
-pub digits_all : (text bytes : Text) (n : ℕ) → n ≡ prefix_len is_digit text → bytes ≡ take n text → are_all is_digit bytes ≡ true
-digits_all text bytes n e f = ap (are_all is_digit) f ∙ ap (λ (k : ℕ). are_all is_digit (take k text)) e ∙ all_pass is_digit text
+pub digits_all : (text bytes : Text) (n : ℕ) → n ≡ prefix_len is_digit text → bytes ≡ take n text → list_all is_digit bytes ≡ true
+digits_all text bytes n e f = ap (list_all is_digit) f ∙ ap (λ (k : ℕ). list_all is_digit (take k text)) e ∙ all_pass is_digit text
 
 pub number_found : (text bytes : Text) (n v : ℕ) → HasHead (λ b. is_digit b ≡ true) text → n ≡ prefix_len is_digit text → bytes ≡ take n text → v ≡ digits_value 10 bytes → IsLongest (kinds.Number v) n text
 number_found text bytes n v h e f g =

@@ -6,3 +6,4 @@ pub mod Signs
 pub mod Steps
 pub mod Well
 pub mod Words
+pub mod Named

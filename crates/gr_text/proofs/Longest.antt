@@ -1,7 +1,7 @@
 -- The longest token at the front of a text, and that it is the only one.
 use Rattle.std.proofs.Common.{◌≡◌, ◌≢◌, ℕ, zero, suc, ◌≤◌, ◌<◌, Bool, true, false, cond, [], ◌∷◌, length, get_or, take, Some, None, refl, sym, ap, subst, ◌∙◌, arith}
 use Rattle.std.specs.Prelude.{◌||◌, ◌==◌}
-use Rattle.std.specs.List.{prefix_len}
+use Rattle.std.specs.List.{list_all, prefix_len}
 use Rattle.std.specs.Str.Parse.{digits_value}
 use Rattle.std.proofs.lemmas.List.{length-take}
 use Rattle.std.proofs.lemmas.List.Sums.{prefix_len-le-length}
@@ -11,7 +11,8 @@ use Rattle.gr_text.specs.declared.token.Sign.{Sign}
 use Rattle.gr_text.specs.declared.token.TokenKind.{TokenKind}
 use Rattle.gr_text.specs.declared.token.TokenKind.TheVariants as kinds
 use Rattle.gr_text.specs.Spelling.{keyword_bytes, sign_bytes}
-use Rattle.gr_text.specs.Text.{Text, HasHead, IsLongest, IsToken, BeginsNoToken, is_letter, is_digit, is_word, is_white, are_all, blank_len, most_name, not_newline}
+use Rattle.gr_lang.specs.Names.{is_letter, is_digit, is_word, most_name}
+use Rattle.gr_text.specs.Text.{Text, HasHead, IsLongest, IsToken, BeginsNoToken, is_white, blank_len, not_newline}
 use Rattle.gr_text.specs.Front.{front_sign}
 use Rattle.gr_text.proofs.Runs.{and_first, and_both, all_pass, run_more, most}
 use Rattle.gr_text.proofs.Signs.{sign_head, some_sign, same_sign, sign_longest, no_sign}
@@ -50,7 +51,7 @@ first_byte b bytes word e = ap (λ (x : Text). get_or x 0 0) e
 
 headed : (k : TokenKind) (b : ℕ) (bytes : Text) → IsToken k (b ∷ bytes) → class_of b ≡ class k
 headed kinds.Name b bytes t = letter_class b t.0
-headed (kinds.Number n) b bytes t = digit_class b (and_first (is_digit b) (are_all is_digit bytes) t.0)
+headed (kinds.Number n) b bytes t = digit_class b (and_first (is_digit b) (list_all is_digit bytes) t.0)
 headed (kinds.Keyword k) b bytes t = letter_class b (ap is_letter (first_byte b bytes (keyword_bytes k) t) ∙ keyword_head k)
 headed (kinds.Sign s) b bytes t =
     let same = first_byte b bytes (sign_bytes s) t in
@@ -60,14 +61,14 @@ headed kinds.End b bytes t = absurd t
 letter_word : (b : ℕ) → is_letter b ≡ true → is_word b ≡ true
 letter_word b h = ap (λ (v : Bool). v || is_digit b) h
 
-word_token : (k : TokenKind) (b : ℕ) (bytes : Text) → is_letter b ≡ true → IsToken k (b ∷ bytes) → are_all is_word (b ∷ bytes) ≡ true
-word_token kinds.Name b bytes l t = and_both (is_word b) (are_all is_word bytes) (letter_word b l) t.1
+word_token : (k : TokenKind) (b : ℕ) (bytes : Text) → is_letter b ≡ true → IsToken k (b ∷ bytes) → list_all is_word (b ∷ bytes) ≡ true
+word_token kinds.Name b bytes l t = and_both (is_word b) (list_all is_word bytes) (letter_word b l) t.1
 word_token (kinds.Number n) b bytes l t = let e = sym (letter_class b l) ∙ headed (kinds.Number n) b bytes t in absurd (omega arith)
-word_token (kinds.Keyword k) b bytes l t = ap (are_all is_word) t ∙ keyword_letters k
+word_token (kinds.Keyword k) b bytes l t = ap (list_all is_word) t ∙ keyword_letters k
 word_token (kinds.Sign s) b bytes l t = let e = sym (letter_class b l) ∙ headed (kinds.Sign s) b bytes t in absurd (omega arith)
 word_token kinds.End b bytes l t = absurd t
 
-digit_token : (k : TokenKind) (b : ℕ) (bytes : Text) → is_digit b ≡ true → IsToken k (b ∷ bytes) → are_all is_digit (b ∷ bytes) ≡ true
+digit_token : (k : TokenKind) (b : ℕ) (bytes : Text) → is_digit b ≡ true → IsToken k (b ∷ bytes) → list_all is_digit (b ∷ bytes) ≡ true
 digit_token kinds.Name b bytes d t = let e = sym (digit_class b d) ∙ headed kinds.Name b bytes t in absurd (omega arith)
 digit_token (kinds.Number n) b bytes d t = t.0
 digit_token (kinds.Keyword k) b bytes d t = let e = sym (digit_class b d) ∙ headed (kinds.Keyword k) b bytes t in absurd (omega arith)
@@ -105,7 +106,7 @@ digit_hash b h = grind (arith, nat_tests)
 token_dark : (k : TokenKind) (b : ℕ) (bytes rest : Text) → IsToken k (b ∷ bytes) → blank_len (b ∷ rest) ≡ 0
 token_dark kinds.Name b bytes rest t = dark b rest (letter_white b t.0) (letter_hash b t.0)
 token_dark (kinds.Number n) b bytes rest t =
-    let d = and_first (is_digit b) (are_all is_digit bytes) t.0 in
+    let d = and_first (is_digit b) (list_all is_digit bytes) t.0 in
     dark b rest (digit_white b d) (digit_hash b d)
 token_dark (kinds.Keyword k) b bytes rest t =
     let l = ap is_letter (first_byte b bytes (keyword_bytes k) t) ∙ keyword_head k in
@@ -178,7 +179,7 @@ word_longest b z l kind t = record {
   longest = λ other more within k. most is_word (b ∷ z) more within (all other more k);
 }
   where
-    all : (other : TokenKind) (more : ℕ) → IsToken other (take more (b ∷ z)) → are_all is_word (take more (b ∷ z)) ≡ true
+    all : (other : TokenKind) (more : ℕ) → IsToken other (take more (b ∷ z)) → list_all is_word (take more (b ∷ z)) ≡ true
     all other zero k = absurd k
     all other (suc more) k = word_token other b (take more z) l k
 
@@ -202,11 +203,11 @@ pub number_front : (text : Text) → HasHead (λ b. is_digit b ≡ true) text �
 number_front [] d = absurd d
 number_front (b ∷ z) d = record {
   within = prefix_len-le-length is_digit (b ∷ z);
-  token = subst (λ (n : ℕ). IsToken (kinds.Number (digits_value 10 (take n (b ∷ z)))) (take n (b ∷ z))) (sym (run_more is_digit b z d)) (and_both (is_digit b) (are_all is_digit (take (prefix_len is_digit z) z)) d (all_pass is_digit z), refl);
+  token = subst (λ (n : ℕ). IsToken (kinds.Number (digits_value 10 (take n (b ∷ z)))) (take n (b ∷ z))) (sym (run_more is_digit b z d)) (and_both (is_digit b) (list_all is_digit (take (prefix_len is_digit z) z)) d (all_pass is_digit z), refl);
   longest = λ other more within k. most is_digit (b ∷ z) more within (all other more k);
 }
   where
-    all : (other : TokenKind) (more : ℕ) → IsToken other (take more (b ∷ z)) → are_all is_digit (take more (b ∷ z)) ≡ true
+    all : (other : TokenKind) (more : ℕ) → IsToken other (take more (b ∷ z)) → list_all is_digit (take more (b ∷ z)) ≡ true
     all other zero k = absurd k
     all other (suc more) k = digit_token other b (take more z) d k
 

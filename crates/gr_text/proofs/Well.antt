@@ -6,7 +6,9 @@ use Rattle.std.proofs.lemmas.Str.Ascii.{IsAscii-from_reads}
 use Rattle.gr_text.specs.declared.token.Token.{Token}
 use Rattle.gr_text.specs.declared.token.TokenKind.{TokenKind}
 use Rattle.gr_text.specs.declared.token.TokenKind.TheVariants as kinds
-use Rattle.gr_text.specs.Text.{Text, Outcome, ReadsFrom, IsToken, IsTokenOf, IsLongest, Fits, AreTokens, IsRising, are_all, is_letter, is_digit, is_word, with_front, token_at, blank_len}
+use Rattle.std.specs.List.{list_all}
+use Rattle.gr_lang.specs.Names.{is_letter, is_digit, is_word}
+use Rattle.gr_text.specs.Text.{Text, Outcome, ReadsFrom, IsToken, IsTokenOf, IsLongest, Fits, AreTokens, IsRising, with_front, token_at, blank_len}
 use Rattle.gr_text.proofs.Found.{blank_fits}
 use Rattle.gr_text.proofs.Longest.{some_token}
 use Rattle.gr_text.proofs.Runs.{and_both, all_at}
@@ -21,7 +23,7 @@ letter_ascii b h = ap (λ (v : Bool). v || is_digit b) h
 
 name_ascii : (bytes : Text) → IsToken kinds.Name bytes → IsAscii bytes
 name_ascii [] t = absurd t
-name_ascii (b ∷ bytes) t = IsAscii-from_reads (b ∷ bytes) (length (b ∷ bytes)) (omega arith) (λ k less. word_ascii (get_or (b ∷ bytes) k 0) (all_at is_word (b ∷ bytes) k (and_both (is_word b) (are_all is_word bytes) (letter_ascii b t.0) t.1) less))
+name_ascii (b ∷ bytes) t = IsAscii-from_reads (b ∷ bytes) (length (b ∷ bytes)) (omega arith) (λ k less. word_ascii (get_or (b ∷ bytes) k 0) (all_at is_word (b ∷ bytes) k (and_both (is_word b) (list_all is_word bytes) (letter_ascii b t.0) t.1) less))
 
 -- ---- the tokens from a place on
 

@@ -6,7 +6,9 @@ use Rattle.std.proofs.lemmas.Slice.Eq.{bytes_eq-Decides}
 use Rattle.gr_text.specs.declared.token.Keyword.{Keyword}
 use Rattle.gr_text.specs.declared.token.Keyword.TheVariants.{Array, Set, Map, Vector, Heap, Input, Show, Task, Let, If, Else, While, Print, Spawn, At, Offer, Finish, Forall, Grain}
 use Rattle.gr_text.specs.Spelling.{keyword_bytes}
-use Rattle.gr_text.specs.Text.{Text, is_letter, is_word, are_all, most_name}
+use Rattle.std.specs.List.{list_all}
+use Rattle.gr_lang.specs.Names.{is_letter, is_word, most_name}
+use Rattle.gr_text.specs.Text.{Text}
 
 -- The place of a keyword in the list of all.
 abbrev pub rank : Keyword → ℕ
@@ -85,7 +87,7 @@ keyword_short Finish = lit≤ tt
 keyword_short Forall = lit≤ tt
 keyword_short Grain = lit≤ tt
 
-pub keyword_letters : (k : Keyword) → are_all is_word (keyword_bytes k) ≡ true
+pub keyword_letters : (k : Keyword) → list_all is_word (keyword_bytes k) ≡ true
 keyword_letters Array = refl
 keyword_letters Set = refl
 keyword_letters Map = refl

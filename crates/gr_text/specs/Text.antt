@@ -1,8 +1,9 @@
 -- What the tokens of a text are, and what a text reads as: its tokens with their places, or its first fault.
-use Rattle.std.specs.Prelude.{◌≡◌, ◌≢◌, ℕ, ◌+◌, ◌-◌, ◌<◌, ◌≤◌, ◌^◌, Bool, true, false, ◌&&◌, ◌||◌, nat_le, ◌==◌, if◌then◌else◌, List, [], ◌∷◌, ◌++◌, length, take, drop, slice_range, All, Result, Ok, Err}
-use Rattle.std.specs.List.{prefix_len}
+use Rattle.std.specs.Prelude.{◌≡◌, ◌≢◌, ℕ, ◌+◌, ◌-◌, ◌<◌, ◌≤◌, ◌^◌, Bool, true, false, ◌||◌, ◌==◌, if◌then◌else◌, List, [], ◌∷◌, ◌++◌, length, take, drop, slice_range, All, Result, Ok, Err}
+use Rattle.std.specs.List.{list_all, prefix_len}
 use Rattle.std.specs.Str.Parse.{digits_value}
 use Rattle.std.specs.Str.{IsAscii}
+use Rattle.gr_lang.specs.Names.{is_letter, is_digit, is_word, most_name}
 use Rattle.gr_text.specs.declared.token.Keyword.{Keyword}
 use Rattle.gr_text.specs.declared.token.TokenKind.{TokenKind}
 use Rattle.gr_text.specs.declared.token.TokenKind.TheVariants as kinds
@@ -17,25 +18,12 @@ Text = List ℕ
 
 -- ---- bytes
 
-abbrev pub is_letter : ℕ → Bool
-is_letter b = (nat_le 97 b && nat_le b 122) || (nat_le 65 b && nat_le b 90) || b == 95
-
-abbrev pub is_digit : ℕ → Bool
-is_digit b = nat_le 48 b && nat_le b 57
-
-abbrev pub is_word : ℕ → Bool
-is_word b = is_letter b || is_digit b
-
 -- A space, a tab, a carriage return or a newline.
 abbrev pub is_white : ℕ → Bool
 is_white b = b == 32 || b == 9 || b == 13 || b == 10
 
 abbrev pub not_newline : ℕ → Bool
 not_newline b = if b == 10 then false else true
-
-abbrev pub are_all : (ℕ → Bool) → Text → Bool
-are_all p [] = true
-are_all p (b ∷ bytes) = p b && are_all p bytes
 
 -- How many bytes at the front are blank: one of white space, or those of a comment, from its `#` to before the next newline.
 abbrev pub blank_len : Text → ℕ
@@ -47,8 +35,8 @@ blank_len (b ∷ rest) = if is_white b then 1 else (if b == 35 then prefix_len n
 -- The bytes are one token of this kind, if its limits are left aside.
 abbrev pub IsToken : TokenKind → Text → Type 0
 IsToken kind [] = ⊥
-IsToken kinds.Name (b ∷ bytes) = (is_letter b ≡ true) × (are_all is_word bytes ≡ true) × ((word : Keyword) → b ∷ bytes ≢ keyword_bytes word)
-IsToken (kinds.Number n) (b ∷ bytes) = (are_all is_digit (b ∷ bytes) ≡ true) × (n ≡ digits_value 10 (b ∷ bytes))
+IsToken kinds.Name (b ∷ bytes) = (is_letter b ≡ true) × (list_all is_word bytes ≡ true) × ((word : Keyword) → b ∷ bytes ≢ keyword_bytes word)
+IsToken (kinds.Number n) (b ∷ bytes) = (list_all is_digit (b ∷ bytes) ≡ true) × (n ≡ digits_value 10 (b ∷ bytes))
 IsToken (kinds.Keyword word) (b ∷ bytes) = b ∷ bytes ≡ keyword_bytes word
 IsToken (kinds.Sign sign) (b ∷ bytes) = b ∷ bytes ≡ sign_bytes sign
 IsToken kinds.End (b ∷ bytes) = ⊥
@@ -61,9 +49,6 @@ pub record IsLongest (kind : TokenKind) (len : ℕ) (text : Text) : Type 0 where
 
 abbrev pub BeginsNoToken : Text → Type 0
 BeginsNoToken text = (kind : TokenKind) (len : ℕ) → len ≤ length text → IsToken kind (take len text) → ⊥
-
-abbrev pub most_name : ℕ
-most_name = 32
 
 -- The limits of a token: 32 bytes for a name, 2 ^ 64 - 1 for a number.
 abbrev pub Fits : TokenKind → ℕ → Type 0

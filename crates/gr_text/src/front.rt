@@ -1,9 +1,10 @@
 //! What stands at the front of a text.
 ghost use Rattle.std.specs.Prelude.{◌≡◌, ℕ, ◌+◌, ◌*◌, ◌≤◌, ◌<◌, ◌^◌, ◌||◌, true, false, ◌∷◌, length, take, drop, List, MatchOption, IfSome};
-ghost use Rattle.std.specs.List.{prefix_len};
+ghost use Rattle.std.specs.List.{list_all, prefix_len};
 ghost use Rattle.std.specs.Char.{digit_value};
 ghost use Rattle.std.specs.Str.Parse.{digits_value};
-ghost use Rattle.gr_text.specs.Text.{are_all, is_word, is_digit, is_white, is_letter, not_newline, blank_len, HasHead};
+ghost use Rattle.gr_lang.specs.Names.{is_word, is_digit, is_letter};
+ghost use Rattle.gr_text.specs.Text.{is_white, not_newline, blank_len, HasHead};
 ghost use Rattle.gr_text.specs.Front.{IsFront, single_sign, double_sign, front_sign};
 
 use crate::spelling::keyword;
@@ -123,7 +124,7 @@ fn shifted(n: u64, digit: u8) -> Option<u64>
 
 /// The number that the digits write, unless it is too wide.
 fn value(digits: &[u8]) -> Option<u64>
-    requires { are_all is_digit digits.now ≡ true }
+    requires { list_all is_digit digits.now ≡ true }
     ensures { MatchOption result (2 ^ 64 ≤ digits_value 10 digits.now) (λ n. n ≡ digits_value 10 digits.now) }
 {
     let mut n: u64 = 0;

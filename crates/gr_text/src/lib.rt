@@ -3,6 +3,7 @@
 
 mod fault;
 mod front;
+pub mod laws;
 mod lexing;
 mod placing;
 mod spelling;

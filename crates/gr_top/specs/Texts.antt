@@ -5,9 +5,8 @@ use Rattle.gr_lang.specs.declared.refusal.Fault.{Fault}
 use Rattle.gr_lang.specs.declared.action.Entry.{Entry}
 use Rattle.gr_lang.specs.declared.action.Entry.TheVariants as e
 use Rattle.gr_lang.specs.declared.action.Op.TheVariants as o
-use Rattle.gr_lang.specs.declared.action.TrapKind.{TrapKind}
-use Rattle.gr_lang.specs.declared.action.TrapKind.TheVariants as trap
 use Rattle.gr_lang.specs.Faults.{words_of}
+use Rattle.gr_lang.specs.Traps.{trap_word}
 use Rattle.gr_top.specs.declared.texts.TrapAt.{TrapAt}
 
 abbrev pub usage_text : List ℕ
@@ -60,12 +59,6 @@ first_of None rest = rest
 unfoldable pub first_trap : List Entry → Option TrapAt
 first_trap [] = None
 first_trap (x ∷ xs) = first_of (trap_of x) (first_trap xs)
-
-abbrev pub trap_word : TrapKind → List ℕ
-trap_word trap.Div = codes "div"
-trap_word trap.Place = codes "place"
-trap_word trap.Core = codes "core"
-trap_word trap.Steps = codes "steps"
 
 abbrev pub trap_text : TrapAt → List ℕ
 trap_text t = codes "trap " ++ (trap_word t.kind ++ (codes " task " ++ (decimal t.task.core ++ (codes "." ++ (decimal t.task.number ++ codes "\n")))))

@@ -124,22 +124,11 @@ pub(crate) fn first_trap(history: &[Entry]) -> Option<TrapAt>
     None
 }
 
-fn trap_word(kind: TrapKind) -> &'static str
-    ensures { result.now ≡ spec.trap_word kind }
-{
-    match kind {
-        TrapKind::Div => "div",
-        TrapKind::Place => "place",
-        TrapKind::Core => "core",
-        TrapKind::Steps => "steps",
-    }
-}
-
 /// Adds the line that tells of a trap.
 pub(crate) fn write_trap(text: &mut String, trap: TrapAt) -> Result<(), AllocError>
     ensures { OnOk result (string_bytes text.new ≡ string_bytes text.old ++ spec.trap_text trap) }
 {
-    let word = trap_word(trap.kind);
+    let word = trap.kind.word();
     writeln!(
         text,
         "trap {} task {}.{}",

@@ -4,7 +4,7 @@ use Rattle.gr_lang.specs.declared.syntax.Expr.{Expr}
 use Rattle.gr_meets.specs.Parsers as read
 use Rattle.gr_meets.proofs.Chains.{chain_none, chain_full, chain_some}
 use Rattle.gr_parse.specs.Tok as tok
-use Rattle.gr_parse.specs.Parsing as spec
+use Rattle.gr_parse.specs.Operands as spec
 use Rattle.gr_parse.proofs.Exprs.{levels_less}
 use Rattle.gr_parse.proofs.Steps.{levels_step}
 use Rattle.gr_parse.proofs.expressions.+expr.Invariants.{operand}
