@@ -15,3 +15,4 @@ pub mod Trails
 pub mod Counts
 pub mod WrittenReads
 pub mod Examples
+pub mod Namables

@@ -1,5 +1,5 @@
 -- A history with the names of its program, and its text.
-use Rattle.std.specs.Prelude.{ℕ, ◌==◌, if◌then◌else◌, List, [], ◌∷◌, ◌++◌, map, take, flat_map, All, Option, Some, None, unwrap_or, slice_get, codes}
+use Rattle.std.specs.Prelude.{◌≡◌, true, ℕ, ◌==◌, if◌then◌else◌, List, [], ◌∷◌, ◌++◌, map, take, flat_map, All, Option, Some, None, unwrap_or, slice_get, codes}
 use Rattle.gr_lang.specs.declared.action.TaskId.{TaskId}
 use Rattle.gr_lang.specs.declared.action.Op.{Op}
 use Rattle.gr_lang.specs.declared.action.Op.TheVariants as ops
@@ -9,6 +9,7 @@ use Rattle.gr_lang.specs.declared.action.Entry.TheVariants as plain
 use Rattle.gr_lang.specs.declared.operation.Operation.{Operation}
 use Rattle.gr_lang.specs.declared.operation.Operation.TheVariants as o
 use Rattle.gr_lang.specs.declared.syntax.Program.{Program}
+use Rattle.gr_lang.specs.Names.{is_name}
 use Rattle.gr_lang.specs.Objects.{heap_number}
 use Rattle.gr_lang.specs.Openings.{object_names, tasks_of}
 use Rattle.gr_lang.specs.Operations.{result_count}
@@ -91,3 +92,8 @@ history_text p cores steps h = line_of (header_parts cores steps) ++ lines_of (m
 -- Each entry's object or target has a name in the program, and each reducer is one of the eight.
 abbrev pub IsNamable : Program → List Entry → Type 0
 IsNamable p = All (λ x. HasNames (named p x))
+
+-- Each object and each task of the program has a name of the language.
+pub record IsNamed (p : Program) : Type 0 where
+  pub objects : All (λ name. is_name name ≡ true) (names_of p).objects
+  pub tasks : All (λ name. is_name name ≡ true) (names_of p).tasks

@@ -1,7 +1,8 @@
 //! The writer of history texts.
-ghost use Rattle.std.specs.Prelude.{◌≡◌, ◌++◌, ◌≤◌, ◌^◌, IfOk, OnOk, Ok, map};
+ghost use Rattle.std.specs.Prelude.{◌≡◌, ◌++◌, ◌≤◌, ◌^◌, IfOk, OnOk, Ok, map, true};
+ghost use Rattle.gr_lang.specs.Histories.{legal};
 ghost use Rattle.gr_hist.specs.Grammar.{HasNumbers, ReadsText};
-ghost use Rattle.gr_hist.specs.Naming.{IsNamable, history_text, lines_of, named, named_by, named_call};
+ghost use Rattle.gr_hist.specs.Naming.{IsNamable, IsNamed, history_text, lines_of, named, named_by, named_call};
 ghost use Rattle.gr_hist.specs.Spelling.{header_parts, line_of, parts_of};
 ghost use Rattle.gr_hist.specs.Written.{HaveNumbers, named_shape};
 
@@ -123,7 +124,7 @@ fn put_header(out: &mut Vec<u8>, cores: u64, steps: u64) -> Result<(), AllocErro
 
 /// The text of a history of the program, with the number of cores, 1 to 16, and the limit of steps, 1 to
 /// 2^40. Where each object and task of the history has a name that is one of the language, it reads as
-/// that history with its names.
+/// that history with its names; so it does where the history is legal and the program gives such names.
 pub fn write(
     alloc: Global,
     program: &Accepted,
@@ -133,6 +134,8 @@ pub fn write(
 ) -> Result<Vec<u8>, AllocError>
     ensures text { IfOk result (λ t. t.items ≡ history_text program.now cores steps history.now) }
     ensures reads { IfOk result (λ t. IsNamable program.now history.now → 1 ≤ cores → cores ≤ 16 → 1 ≤ steps → steps ≤ 2 ^ 40
+        → ReadsText t.items (Ok (record { cores = cores; steps = steps; lines = map (named program.now) history.now }))) }
+    ensures reads_legal { IfOk result (λ t. IsNamed program.now → legal program.now cores steps history.now ≡ true → 1 ≤ cores → cores ≤ 16 → 1 ≤ steps → steps ≤ 2 ^ 40
         → ReadsText t.items (Ok (record { cores = cores; steps = steps; lines = map (named program.now) history.now }))) }
 {
     let tables = Tables::new(alloc, program.program())?;

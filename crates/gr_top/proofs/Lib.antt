@@ -9,3 +9,5 @@ pub mod Exact
 pub mod Headline
 pub mod Calls
 pub mod Runs
+pub mod Namings
+pub mod Retold

@@ -1,5 +1,5 @@
 -- What a text reads as: its tokens spell one program that is accepted, or there is a first fault, of the tokens before one of the grammar before one of the checker.
-use Rattle.std.specs.Prelude.{◌≡◌, ◌≢◌, ◌<◌, ◌≤◌, ◌^◌, ℕ, true, false, List, length, Ok, Err, Option, None, Some, is_some, ◌⊎◌, String}
+use Rattle.std.specs.Prelude.{◌≡◌, ◌≢◌, ◌<◌, ◌≤◌, ◌^◌, ℕ, true, false, List, length, map, Ok, Err, Option, None, Some, is_some, ◌⊎◌, String}
 use Rattle.std.specs.declared.alloc.Global.{Global}
 use Rattle.gr_lang.specs.declared.syntax.Program.{Program}
 use Rattle.gr_lang.specs.declared.refusal.Kind.TheVariants as k
@@ -20,8 +20,12 @@ use Rattle.gr_cli.specs.declared.settings.Command.{Command}
 use Rattle.gr_cli.specs.declared.settings.Command.TheVariants.{Run, Check, Replay, Bench}
 use Rattle.gr_hist.specs.declared.text.HistoryText.{HistoryText}
 use Rattle.gr_hist.specs.Grammar.{ReadsText}
+use Rattle.gr_hist.specs.Naming.{history_text, named}
+use Rattle.gr_cli.specs.Options.{IsWithinLimits}
+use Rattle.gr_lang.specs.declared.action.Entry.{Entry}
 use Rattle.gr_replay.specs.Division.{program_part, history_part}
 use Rattle.gr_replay.specs.Judged.{Verdict, Judged}
+use Rattle.gr_replay.specs.Judged as verdict
 use Rattle.gr_top.specs.declared.answer.Refusal.{Refusal}
 use Rattle.gr_top.specs.declared.answer.Refusal.TheVariants.{Memory, ReadFault}
 use Rattle.gr_top.specs.Texts.{first_trap}
@@ -61,10 +65,15 @@ Answered words bytes before now Memory world = Keeps before now × (world ≡ No
 Answered words bytes before now ReadFault world = Keeps before now × (world ≡ None)
 Answered words bytes before now refusal world = (d : Due) × IsDue words bytes world d × Came d before now refusal world
 
--- A run that is kept is one of the program that the text reads as: its history is legal, and complete or trapped.
+-- A history of the program as its text tells it.
+abbrev pub told_as : Options → Program → List Entry → HistoryText
+told_as o p history = record { cores = o.cores; steps = o.steps; lines = map (named p) history }
+
+-- A run that is kept is one of the program that the text reads as: its history is legal, and complete or trapped, and its text, where that is asked for, reads as it.
 pub record IsRunOf (o : Options) (p : Program) (world : WorldEnd) : Type 0 where
   pub legal : legal p o.cores o.steps world.history ≡ true
   pub ends : (complete p o.cores o.steps world.history ≡ true) ⊎ (is_some (first_trap world.history) ≡ true)
+  pub told : o.history ≡ true → IsWithinLimits o → ReadsText (history_text p o.cores o.steps world.history) (Ok (told_as o p world.history))
 
 pub record IsRunAsked (words : List (String Global)) (bytes : List ℕ) (world : WorldEnd) : Type 0 where
   pub options : Options
@@ -76,6 +85,12 @@ pub record IsRunAsked (words : List (String Global)) (bytes : List ℕ) (world :
 abbrev pub IsWorldOf : List (String Global) → List ℕ → Option WorldEnd → Type 0
 IsWorldOf words bytes None = Unit {0}
 IsWorldOf words bytes (Some world) = IsRunAsked words bytes world
+
+-- What `--history` writes of a run is judged by a replay of the same program: it is legal, and complete where the run is.
+abbrev pub IsRetold : List (String Global) → List ℕ → Option WorldEnd → Type 0
+IsRetold words bytes None = Unit {0}
+IsRetold words bytes (Some world) = (o : Options) (p : Program) → asked words ≡ Some o → ReadsAs bytes (accepted p) → o.history ≡ true
+    → ReplaysAs bytes (history_text p o.cores o.steps world.history) (judged (verdict.legal (complete p o.cores o.steps world.history)))
 
 -- Neither memory nor the source failed.
 abbrev pub IsDelivered : Refusal → Type 0

@@ -10,12 +10,11 @@ ghost use Rattle.gr_lang.specs.declared.refusal.Fault.{Fault};
 ghost use Rattle.gr_top.specs.declared.answer.WorldEnd.{WorldEnd};
 ghost use Rattle.gr_cli.specs.declared.settings.Options.{Options};
 ghost use Rattle.gr_cli.specs.declared.settings.Command.TheVariants as command;
-ghost use Rattle.gr_hist.specs.Grammar.{ReadsText};
 ghost use Rattle.gr_replay.specs.Division.{program_part, history_part};
 ghost use Rattle.gr_replay.specs.Judged.{legal as legal_as, not_legal as not_legal_as};
 ghost use Rattle.gr_top.specs.Commands.{asked as asked_of, is_on_text, is_read as reads_source, is_run, limit_of, IsUnread};
 ghost use Rattle.gr_top.specs.Due.{accepted, refused as refused_as, bad_line as bad_line_of, judged as judged_as, status_of, told, IsWritten};
-ghost use Rattle.gr_top.specs.Readings.{ReadsAs, ReplaysAs, IsDue, Answered, IsRunOf, IsWorldOf, IsDelivered, Refusing};
+ghost use Rattle.gr_top.specs.Readings.{ReadsAs, ReplaysAs, IsDue, Answered, IsRunOf, IsWorldOf, IsDelivered, IsRetold, Refusing};
 ghost use Rattle.gr_top.specs.Texts.{prints};
 ghost use Rattle.gr_top.specs.Views.{made};
 
@@ -114,8 +113,9 @@ pub fn top<S: Source, K: Sink>(
     ensures answer { IfSome (S.left source.old) (λ bytes.
         Answered words.now bytes (K.got sink.old) (K.got sink.new) result.refusal result.world) }
 
-    // That run is one of the program that the text reads as.
+    // That run is one of the program that the text reads as, and a replay of what `--history` writes of it says what it is.
     ensures history { IfSome (S.left source.old) (λ bytes. IsWorldOf words.now bytes result.world) }
+    ensures retold { IfSome (S.left source.old) (λ bytes. IsRetold words.now bytes result.world) }
 
     // Where the source doesn't tell what it holds, the same for the bytes that it gave.
     ensures some_bytes { IsDelivered result.refusal → (bytes : List ℕ) × Consumes (S.left source.old) (S.left source.new) bytes

@@ -1,9 +1,13 @@
 //! From options and a text to an answer that is whole before a byte is written.
-ghost use Rattle.std.specs.Prelude.{◌≡◌, ◌++◌, true, IfOk, IfSome, OnOk, None, Some};
+ghost use Rattle.std.specs.Prelude.{◌≡◌, ◌++◌, true, IfOk, IfSome, OnOk, None, Some, Ok};
 ghost use Rattle.gr_lang.specs.declared.syntax.Program.{Program};
+ghost use Rattle.gr_lang.specs.Histories.{legal};
+ghost use Rattle.gr_cli.specs.Options.{IsWithinLimits};
+ghost use Rattle.gr_hist.specs.Grammar.{ReadsText};
+ghost use Rattle.gr_hist.specs.Naming.{IsNamed, history_text};
 ghost use Rattle.gr_top.specs.Commands.{is_on_text, is_run as is_run_today};
 ghost use Rattle.gr_top.specs.Due.{Reading, accepted as accepted_as, not_built as not_built_fault, due_read, due_accepted, due_run, due_of_run, due_refused, followed, told, IsWritten};
-ghost use Rattle.gr_top.specs.Readings.{ReadsAs, IsRunOf};
+ghost use Rattle.gr_top.specs.Readings.{ReadsAs, IsRunOf, told_as};
 ghost use Rattle.gr_top.specs.Views.{made};
 
 use crate::answer::{Answer, Refusal, WorldEnd};
@@ -104,7 +108,10 @@ fn add_history(
     program: &Accepted,
     history: &History,
 ) -> Result<(), AllocError>
-    ensures { OnOk result (text.new.items ≡ text.old.items ++ told options.history program.now options.cores options.steps history.now) }
+    requires { IsNamed program.now }
+    ensures text { OnOk result (text.new.items ≡ text.old.items ++ told options.history program.now options.cores options.steps history.now) }
+    ensures reads { OnOk result (options.history ≡ true → legal program.now options.cores options.steps history.now ≡ true → IsWithinLimits options
+        → ReadsText (history_text program.now options.cores options.steps history.now) (Ok (told_as options program.now history.now))) }
 {
     if options.history {
         let lines = write(alloc, program, options.cores, options.steps, history)?;
@@ -115,7 +122,8 @@ fn add_history(
 
 /// The answer to a program that is run today.
 fn run_program(alloc: Global, options: Options, program: &Accepted) -> Result<Answer, AllocError>
-    requires { is_run_today options program.now ≡ true }
+    requires today { is_run_today options program.now ≡ true }
+    requires named { IsNamed program.now }
     ensures due { IfOk result (λ a. made a ≡ due_run options program.now a.world) }
     ensures runs { IfOk result (λ a. IfSome a.world (λ world. IsRunOf options program.now world)) }
     ensures written { IfOk result (λ a. IsWritten a.refusal) }
@@ -145,6 +153,7 @@ fn is_run(options: Options, program: &Accepted) -> bool
 
 /// The answer to an accepted program.
 fn accepted(alloc: Global, options: Options, program: &Accepted) -> Result<Answer, AllocError>
+    requires { IsNamed program.now }
     ensures due { IfOk result (λ a. made a ≡ due_accepted options.command options program.now a.world) }
     ensures runs { IfOk result (λ a. IfSome a.world (λ world. IsRunOf options program.now world)) }
     ensures written { IfOk result (λ a. IsWritten a.refusal) }

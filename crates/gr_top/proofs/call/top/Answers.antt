@@ -8,6 +8,7 @@ use Rattle.gr_top.specs.Views.{made}
 use Rattle.gr_top.proofs.Dues.{if_some, of_some}
 use Rattle.gr_top.proofs.Calls.{answer_told, usage_of, too_long_of, refused_of, entry_of, line_of, headline_of, check_of, run_of, replay_of, refuse_of, either_of, if_checks, if_runs, if_replays, if_refuses}
 use Rattle.gr_top.specs.declared.answer.Refusal.TheVariants as r
+use Rattle.gr_top.proofs.Retold.{world_retold}
 use Rattle.gr_top.proofs.call.top.Goals as goal
 
 judged_once : JudgedOnce
@@ -33,6 +34,9 @@ returns-in-Ok-clause-headline g c = λ s o some run.
     if_some _ (λ bytes e. headline_of c.args.words.now c.in-Ok.answer _ _ c.deliver.result.refusal c.deliver.result.world c.deliver.ensures.world c.deliver.ensures.came bytes o
     (of_some (λ (bs : List ℕ). IsDue c.args.words.now bs c.in-Ok.answer.world (made c.in-Ok.answer)) _ bytes e c.in-Ok.ensures.due)
     (of_some (λ (bs : List ℕ). IsWorldOf c.args.words.now bs c.in-Ok.answer.world) _ bytes e c.in-Ok.ensures.world) (sym c.deliver.ensures.status ∙ s) some run)
+
+pub returns-in-Ok-clause-retold : goal.returns-in-Ok-clause-retold
+returns-in-Ok-clause-retold g c = world_retold c.args.words.now _ c.deliver.result.world c.in-Ok.answer.world c.deliver.ensures.world c.in-Ok.ensures.world
 
 pub returns-in-Ok-clause-checks : goal.returns-in-Ok-clause-checks
 returns-in-Ok-clause-checks g c =

@@ -1,0 +1,4 @@
+pub mod Bodies
+pub mod Actions
+pub mod Looks
+pub mod Steps

@@ -1,0 +1,64 @@
+-- What is written of a run is judged as its history is.
+use Rattle.std.proofs.Common.{◌≡◌, ◌∙◌, ℕ, List, Bool, true, false, Option, Some, None, map, refl, sym, ap, subst, Ok}
+use Rattle.std.specs.Prelude.{IfSome, String}
+use Rattle.std.specs.declared.alloc.Global.{Global}
+use Rattle.std.specs.Option.{option_map_or}
+use Rattle.gr_lang.specs.declared.syntax.Program.{Program}
+use Rattle.gr_lang.specs.declared.action.Entry.{Entry}
+use Rattle.gr_lang.specs.Accepted.{IsAccepted}
+use Rattle.gr_lang.specs.Histories.{final, legal, complete}
+use Rattle.gr_lang.specs.States.{State, opening_state}
+use Rattle.gr_cli.specs.Options.{IsWithinLimits}
+use Rattle.gr_cli.specs.declared.settings.Options.{Options}
+use Rattle.gr_cli.proofs.Limits.{options_are_within}
+use Rattle.gr_hist.specs.Grammar.{ReadsText}
+use Rattle.gr_hist.specs.Naming.{IsNamed, history_text, named}
+use Rattle.gr_hist.proofs.Namables.{final_of, legal_namable}
+use Rattle.gr_replay.specs.Judged.{Judged}
+use Rattle.gr_replay.specs.Judged as verdict
+use Rattle.gr_replay.specs.Laws.{WrittenNames}
+use Rattle.gr_replay.proofs.RoundTrips.{history_back}
+use Rattle.gr_replay.proofs.Uniques.{objects_once, tasks_once}
+use Rattle.gr_top.specs.Commands.{asked}
+use Rattle.gr_top.specs.Due.{accepted, judged}
+use Rattle.gr_top.specs.Readings.{ReadsAs, ReplaysAs, IsRunOf, IsRunAsked, IsWorldOf, IsRetold, told_as}
+use Rattle.gr_top.specs.declared.answer.WorldEnd.{WorldEnd}
+use Rattle.gr_top.proofs.Once.{once}
+use Rattle.gr_top.proofs.Namings.{accepted_named, accepted_is, no_heap}
+
+-- What is written names the history again.
+names_again : WrittenNames
+names_again p N L history S taken absent is_after namable = history_back p (objects_once p taken) (tasks_once p taken) absent N L history (opening_state p L) S is_after namable
+
+-- A legal history is judged legal, and complete where it is.
+legal_judged : (p : Program) (N L : ℕ) (h : List Entry) → IsAccepted p → IsNamed p → legal p N L h ≡ true → Judged p N L (map (named p) h) (verdict.legal (complete p N L h))
+legal_judged p N L h taken names is_legal =
+    let f = final_of (final p N L h) is_legal in
+    let whole : complete p N L h ≡ f.0.passed = ap (λ (o : Option State). option_map_or (λ S. S.passed) o false) f.1 in
+    subst (λ (b : Bool). Judged p N L (map (named p) h) (verdict.legal b)) (sym whole)
+    (Judged.is_legal h f.0 (names_again p N L h f.0 taken (no_heap p names) f.1 (legal_namable p N L h taken names is_legal)) f.1)
+
+run_retold : (o : Options) (p : Program) (bytes : List ℕ) (world : WorldEnd) → ReadsAs bytes (accepted p) → o.history ≡ true → IsWithinLimits o → IsRunOf o p world
+    → ReplaysAs bytes (history_text p o.cores o.steps world.history) (judged (verdict.legal (complete p o.cores o.steps world.history)))
+run_retold o p bytes world reads asks within run =
+    ReplaysAs.of_history {h = told_as o p world.history} reads (run.told asks within) (legal_judged p o.cores o.steps world.history (accepted_is bytes p reads) (accepted_named bytes p reads) run.legal)
+
+same_options : (words : List (String Global)) (o q : Options) → asked words ≡ Some o → asked words ≡ Some q → o ≡ q
+same_options words o q x y = let k : Some o ≡ Some q = sym x ∙ y in cc
+
+pub asked_retold : (words : List (String Global)) (bytes : List ℕ) (world : WorldEnd) → IsRunAsked words bytes world → (o : Options) (p : Program) → asked words ≡ Some o → ReadsAs bytes (accepted p) → o.history ≡ true
+    → ReplaysAs bytes (history_text p o.cores o.steps world.history) (judged (verdict.legal (complete p o.cores o.steps world.history)))
+asked_retold words bytes world h o p some reads asks =
+    let same : h.program ≡ p = let q : accepted h.program ≡ accepted p = once bytes (accepted h.program) (accepted p) h.reads reads in cc in
+    let run : IsRunOf o p world = subst (λ (x : Program). IsRunOf o x world) same (subst (λ (x : Options). IsRunOf x h.program world) (same_options words h.options o h.asked some) h.run) in
+    run_retold o p bytes world reads asks (options_are_within _ o some) run
+
+-- The same of a call: of the world that it keeps, where its source tells what it held.
+pub world_retold : (words : List (String Global)) (held : Option (List ℕ)) (world made : Option WorldEnd) → world ≡ made → IfSome held (λ bytes. IsWorldOf words bytes made)
+    → IfSome held (λ bytes. IsRetold words bytes world)
+world_retold words None world made same h = tt
+world_retold words (Some bytes) world made same h = by world (subst (IsWorldOf words bytes) (sym same) h)
+  where
+    by : (kept : Option WorldEnd) → IsWorldOf words bytes kept → IsRetold words bytes kept
+    by None k = tt
+    by (Some w) k = asked_retold words bytes w k

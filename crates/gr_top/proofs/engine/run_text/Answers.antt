@@ -1,0 +1,9 @@
+use Rattle.std.proofs.Common.{◌≡◌, sym, ap, ◌∙◌, subst}
+use Rattle.gr_top.specs.Due.{Reading, accepted}
+use Rattle.gr_top.specs.Readings.{ReadsAs}
+use Rattle.gr_top.specs.Views.{reading_of}
+use Rattle.gr_top.proofs.Namings.{accepted_named}
+use Rattle.gr_top.proofs.engine.run_text.Goals as goal
+
+pub accepted-requires : goal.accepted-requires
+accepted-requires c = accepted_named c.args.text.now c.in-Accepted.program (subst (λ (r : Reading). ReadsAs c.args.text.now r) (ap reading_of c.in-Accepted.is) c.in_ok-read.ensures)
