@@ -1,5 +1,5 @@
 -- The least of a list is its first.
-use Rattle.std.proofs.Common.{◌==◌, nat_lt, subst, slice_index_or, ◌≡◌, ℕ, zero, suc, ◌<◌, Bool, true, false, if◌then◌else◌, List, [], ◌∷◌, length, Some, None, Contains, refl, sym, ap, ◌∙◌, arith}
+use Rattle.std.proofs.Common.{◌==◌, nat_lt, subst, slice_index_or, ◌≡◌, ℕ, zero, suc, ◌<◌, Bool, true, false, if◌then◌else◌, List, [], ◌∷◌, length, Option, Some, None, Contains, refl, sym, ap, ◌∙◌, arith, ◌⊎◌, inl, inr}
 use Rattle.std.specs.List.{All}
 use Rattle.std.proofs.lemmas.Bool.Decides.{nat_tests}
 use Rattle.gr_lang.specs.Faults.{comes_before, rank, IsFirst}
@@ -158,6 +158,14 @@ neither f g h j =
     let d = lex-left g.at.column f.at.column (nat_lt (rank g.kind) (rank f.kind)) (nat_lt (rank f.kind) (rank g.kind)) b a in
     let kind = sym (kind_at-rank f.kind) ∙ ap kind_at (lt-equal (rank f.kind) (rank g.kind) c d) ∙ kind_at-rank g.kind in
     λ i. record { kind = kind i; at = record { line = line i; column = column i } }
+
+-- A list is empty or has a first fault.
+pub none-or-first : (fs : List Fault) → (fs ≡ []) ⊎ ((f : Fault) × IsFirst f fs)
+none-or-first fs = by (least None fs) refl
+  where
+    by : (o : Option Fault) → least None fs ≡ o → (fs ≡ []) ⊎ ((f : Fault) × IsFirst f fs)
+    by None e = inl (least-none fs e)
+    by (Some f) e = inr (f, least-first fs f e)
 
 pub first-unique : (fs : List Fault) (f g : Fault) → IsFirst f fs → IsFirst g fs → f ≡ g
 first-unique fs f g a b = neither f g

@@ -13,3 +13,7 @@ ConsumesExactly before now n = (bytes : List ℕ) × Consumes before now bytes �
 -- the reads between these two states gave n bytes or fewer
 abbrev pub ConsumesAtMost : Option (List ℕ) → Option (List ℕ) → ℕ → Type 0
 ConsumesAtMost before now n = (bytes : List ℕ) × Consumes before now bytes × (length bytes ≤ n)
+
+-- the reads between these two states gave a byte or more
+abbrev pub ConsumesSome : Option (List ℕ) → Option (List ℕ) → Type 0
+ConsumesSome before now = (bytes : List ℕ) × Consumes before now bytes × (0 < length bytes)

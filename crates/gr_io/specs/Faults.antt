@@ -1,5 +1,7 @@
 -- When a failure is a fault of the device itself: its count of faults rose in that call.
-use Rattle.std.specs.Prelude.{◌≡◌, ℕ, ◌+◌, ◌-◌, ◌^◌, ◌≤◌, min, OnErr, MatchResult, Result}
+use Rattle.std.specs.Prelude.{◌≡◌, ℕ, ◌+◌, ◌-◌, ◌^◌, ◌≤◌, min, OnErr, MatchResult, Result, Ok, Err}
+use Rattle.gr_io.specs.declared.whole.ReadAllError.{ReadAllError}
+use Rattle.gr_io.specs.declared.whole.ReadAllError.TheVariants as errors
 
 -- one more than n, or the last value that a `u64` has
 abbrev pub next_count : ℕ → ℕ
@@ -17,3 +19,10 @@ pub record HasCause {T E : Type 0} (before now : ℕ) (result : Result T E) : Ty
 -- an `Err` counts one fault, and an `Ok` none
 abbrev pub CountsFault : {T E : Type 0} → ℕ → ℕ → Result T E → Type 0
 CountsFault before now result = MatchResult result (λ _. now ≡ before) (λ _. now ≡ next_count before)
+
+-- a `ReadFault` counts one fault, and every other answer none
+abbrev pub CountsReadFault : {T : Type 0} → ℕ → ℕ → Result T ReadAllError → Type 0
+CountsReadFault before now (Ok _) = now ≡ before
+CountsReadFault before now (Err errors.ReadFault) = now ≡ next_count before
+CountsReadFault before now (Err errors.TooLong) = now ≡ before
+CountsReadFault before now (Err errors.OutOfMemory) = now ≡ before

@@ -3,7 +3,7 @@
 ghost use Rattle.std.specs.Prelude.{ℕ, List, Option};
 ghost use Rattle.std.specs.Io.{ReadsAtMost};
 ghost use Rattle.std.specs.Io.KnownBytes.{ReadConsumes, WriteAppends};
-ghost use Rattle.gr_io.specs.Faults.{HasCause};
+ghost use Rattle.gr_io.specs.Faults.{HasCause, CountsFault};
 ghost use Rattle.gr_io.specs.Amounts.{TakesSome};
 
 use thiserror::Error;
@@ -31,11 +31,13 @@ pub trait Source {
     ///
     /// # Errors
     ///
-    /// `Failed` comes only where the count of faults rose, and then what is left stays.
+    /// `Failed` comes only where the count of faults rose, and then what is left stays. A read that
+    /// succeeds counts none.
     fn read(&mut self, buf: &mut [u8]) -> Result<usize, Failed>
         ensures bound { ReadsAtMost result buf.new }
         ensures bytes { ReadConsumes (left self.old) (left self.new) result buf.new }
-        ensures cause { HasCause (faults self.old) (faults self.new) result };
+        ensures cause { HasCause (faults self.old) (faults self.new) result }
+        ensures counted { CountsFault (faults self.old) (faults self.new) result };
 }
 
 /// Where bytes go.
@@ -54,9 +56,11 @@ pub trait Sink {
     ///
     /// # Errors
     ///
-    /// `Failed` comes only where the count of faults rose, and then what it got stays.
+    /// `Failed` comes only where the count of faults rose, and then what it got stays. A write that
+    /// succeeds counts none.
     fn write(&mut self, piece: &[u8]) -> Result<usize, Failed>
         ensures bound { TakesSome result piece.now }
         ensures bytes { WriteAppends (got self.old) (got self.new) result piece.now }
-        ensures cause { HasCause (faults self.old) (faults self.new) result };
+        ensures cause { HasCause (faults self.old) (faults self.new) result }
+        ensures counted { CountsFault (faults self.old) (faults self.new) result };
 }

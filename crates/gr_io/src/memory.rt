@@ -2,7 +2,7 @@
 ghost use Rattle.std.specs.Prelude.{◌≡◌, ℕ, ◌+◌, ◌-◌, ◌<◌, ◌≤◌, ◌↔◌, ◌++◌, List, [], Option, Some, drop, take, length, vec_len, vec_capacity, IfOk, OnErr, IsErr, Contains, min, ◌⊎◌};
 ghost use Rattle.std.specs.Io.{ReadsAtMost};
 ghost use Rattle.std.specs.Io.KnownBytes.{ReadConsumes, WriteAppends};
-ghost use Rattle.gr_io.specs.Faults.{HasCause, next_count};
+ghost use Rattle.gr_io.specs.Faults.{HasCause, CountsFault, next_count};
 ghost use Rattle.gr_io.specs.Amounts.{TakesSome};
 ghost use Rattle.gr_io.specs.Memory.{SourceState, SinkState};
 
@@ -63,7 +63,8 @@ impl MemSource {
 fn copy_front(from: &[u8], buf: &mut [u8], count: usize)
     requires held { count ≤ length from.now }
     requires fits { count ≤ length buf.old }
-    ensures { take count buf.new ≡ take count from.now }
+    ensures front { take count buf.new ≡ take count from.now }
+    ensures rest { drop count buf.new ≡ drop count buf.old }
 {
     buf[..count].copy_from_slice(&from[..count]);
 }
@@ -77,11 +78,16 @@ impl Source for MemSource {
         ensures bound { ReadsAtMost result buf.new }
         ensures bytes { ReadConsumes (Some self.old.left) (Some self.new.left) result buf.new }
         ensures cause { HasCause self.old.faults self.new.faults result }
+        ensures counted { CountsFault self.old.faults self.new.faults result }
 
         // Just the chosen reads fail, and each of the others gives all that it may.
         ensures fails { IsErr result ↔ Contains self.old.fails self.old.calls }
         ensures count { IfOk result (λ n.
             n ≡ min (min (length self.old.left) self.old.piece) (length buf.old)) }
+
+        // Only the front of the buffer changes, and nothing of it where the read fails.
+        ensures rest { IfOk result (λ n. drop n buf.new ≡ drop n buf.old) }
+        ensures kept { OnErr result (buf.new ≡ buf.old) }
 
         // What the source is afterwards.
         ensures ok { IfOk result (λ n. self.new ≡ record self.old {
@@ -140,7 +146,7 @@ impl MemSink {
     ///
     /// # Errors
     ///
-    /// Want of memory for the room. A write takes no memory.
+    /// Want of memory for the room, where there is to be any. A write takes no memory.
     pub fn new(
         alloc: Global,
         room: usize,
@@ -148,7 +154,7 @@ impl MemSink {
         fails: Vec<u64>,
     ) -> Result<MemSink, AllocError>
         requires { 0 < piece }
-        ensures { IfOk result (λ sink. sink ≡ record {
+        ensures ok { IfOk result (λ sink. sink ≡ record {
           got = [];
           room = room;
           piece = piece;
@@ -156,6 +162,7 @@ impl MemSink {
           calls = 0;
           faults = 0;
         }) }
+        ensures memory { OnErr result (0 < room) }
     {
         let bytes = Vec::with_capacity(alloc, room)?;
         Ok(MemSink {
@@ -185,6 +192,7 @@ impl Sink for MemSink {
         ensures bound { TakesSome result piece.now }
         ensures bytes { WriteAppends (Some self.old.got) (Some self.new.got) result piece.now }
         ensures cause { HasCause self.old.faults self.new.faults result }
+        ensures counted { CountsFault self.old.faults self.new.faults result }
 
         // Just the chosen writes and those without room fail, and the others take all that they may.
         ensures fails { IsErr result

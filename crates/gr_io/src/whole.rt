@@ -1,8 +1,8 @@
 // Reading a whole source, and writing a whole text to a sink.
 ghost use Rattle.std.specs.Prelude.{◌≡◌, ℕ, ◌+◌, ◌-◌, ◌<◌, ◌≤◌, take, length, vec_len, IfOk, OnOk, IfErr, OnErr, IfSome, IsErrOf};
 ghost use Rattle.std.specs.Io.KnownBytes.{Appends, Consumes, IsAtEnd};
-ghost use Rattle.gr_io.specs.Faults.{HasCause, Rose};
-ghost use Rattle.gr_io.specs.Amounts.{ConsumesAtMost, ConsumesExactly};
+ghost use Rattle.gr_io.specs.Faults.{HasCause, CountsFault, CountsReadFault, Rose};
+ghost use Rattle.gr_io.specs.Amounts.{ConsumesAtMost, ConsumesExactly, ConsumesSome};
 
 use crate::device::{Sink, Source};
 use std::alloc::{AllocError, Global};
@@ -49,8 +49,9 @@ const PIECE: usize = 4096;
 ///
 /// # Errors
 ///
-/// `ReadFault` where a read failed. `TooLong` where `max + 1` bytes were read. `OutOfMemory` where the
-/// bytes find no room. The bytes read until then are gone from the source.
+/// `ReadFault` where a read failed, and nowhere else. `TooLong` where `max + 1` bytes were read.
+/// `OutOfMemory` where the bytes, one or more and not more than `max`, find no room. The bytes read
+/// until then are gone from the source.
 pub fn read_all<S: Source>(alloc: Global, source: &mut S, max: u64) -> Result<Vec<u8>, ReadAllError>
     ensures whole { IfOk result (λ bytes. Consumes (S.left source.old) (S.left source.new) bytes.items) }
     ensures end { OnOk result (IsAtEnd (S.left source.new)) }
@@ -62,7 +63,9 @@ pub fn read_all<S: Source>(alloc: Global, source: &mut S, max: u64) -> Result<Ve
     ensures fault_within { IsErrOf result ReadAllError.ReadFault
         → ConsumesAtMost (S.left source.old) (S.left source.new) max }
     ensures memory_within { IsErrOf result ReadAllError.OutOfMemory
-        → ConsumesAtMost (S.left source.old) (S.left source.new) (max + 1) }
+        → ConsumesAtMost (S.left source.old) (S.left source.new) max }
+    ensures memory_some { IsErrOf result ReadAllError.OutOfMemory
+        → ConsumesSome (S.left source.old) (S.left source.new) }
 
     // What a source that knows its content held.
     ensures all { IfOk result (λ bytes. IfSome (S.left source.old) (λ all. bytes.items ≡ all)) }
@@ -73,19 +76,18 @@ pub fn read_all<S: Source>(alloc: Global, source: &mut S, max: u64) -> Result<Ve
     ensures fault { IsErrOf result ReadAllError.ReadFault
         → Rose (S.faults source.old) (S.faults source.new) }
     ensures later { S.faults source.old ≤ S.faults source.new }
+    ensures counted { CountsReadFault (S.faults source.old) (S.faults source.new) result }
 {
     let mut bytes = Vec::new(alloc);
     let mut buf = [0u8; PIECE];
     'reads: loop {
-        let len = bytes.len() as u64;
-        if len > max {
-            return Err(ReadAllError::TooLong);
-        }
+        let left = max - bytes.len() as u64;
         // One byte more than the limit leaves shows that the input is too long.
-        let want = (max - len).min(PIECE as u64 - 1) as usize + 1;
+        let want = left.min(PIECE as u64 - 1) as usize + 1;
         match source.read(&mut buf[..want]) {
             Err(_) => return Err(ReadAllError::ReadFault),
             Ok(0) => return Ok(bytes),
+            Ok(count) if count as u64 > left => return Err(ReadAllError::TooLong),
             Ok(count) => bytes.extend_from_slice(&buf[..count])?,
         }
     }
@@ -95,13 +97,14 @@ pub fn read_all<S: Source>(alloc: Global, source: &mut S, max: u64) -> Result<Ve
 ///
 /// # Errors
 ///
-/// `WriteFault` where a write failed: the sink got just the first `written` bytes.
+/// `WriteFault` where a write failed, and nowhere else: the sink got just the first `written` bytes.
 pub fn write_all<K: Sink>(sink: &mut K, bytes: &[u8]) -> Result<(), WriteFault>
     ensures all { OnOk result (Appends (K.got sink.old) (K.got sink.new) bytes.now) }
     ensures part { IfErr result (λ fault.
         Appends (K.got sink.old) (K.got sink.new) (take fault.written bytes.now)) }
     ensures short { IfErr result (λ fault. fault.written < length bytes.now) }
     ensures cause { HasCause (K.faults sink.old) (K.faults sink.new) result }
+    ensures counted { CountsFault (K.faults sink.old) (K.faults sink.new) result }
 {
     let mut at = 0;
     'writes: while at < bytes.len() {

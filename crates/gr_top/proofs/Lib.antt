@@ -11,3 +11,4 @@ pub mod Calls
 pub mod Runs
 pub mod Namings
 pub mod Retold
+pub mod Counted

@@ -6,3 +6,4 @@ pub mod Due
 pub mod Readings
 pub mod Views
 pub mod Runs
+pub mod Counts

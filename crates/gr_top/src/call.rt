@@ -1,6 +1,7 @@
 //! The top call.
-ghost use Rattle.std.specs.Prelude.{List, Bool, ◌++◌, String, ◌≡◌, ◌≢◌, ℕ, ◌<◌, ◌≤◌, ◌^◌, ◌⊎◌, IfOk, IsErrOf, IfSome, IsSome, Some, None, length, true, false};
+ghost use Rattle.std.specs.Prelude.{List, Bool, ◌++◌, String, ◌≡◌, ◌≢◌, ℕ, ◌+◌, ◌<◌, ◌≤◌, ◌^◌, ◌⊎◌, IfOk, IsErrOf, IfSome, IsSome, Some, None, length, true, false};
 ghost use Rattle.std.specs.Io.KnownBytes.{Keeps, Appends, Consumes};
+ghost use Rattle.gr_io.specs.Amounts.{ConsumesAtMost};
 ghost use Rattle.gr_io.specs.Faults.{Rose};
 ghost use Rattle.gr_lang.specs.Faults.{fault};
 ghost use Rattle.gr_lang.specs.Histories.{legal, complete};
@@ -14,6 +15,7 @@ ghost use Rattle.gr_replay.specs.Division.{program_part, history_part};
 ghost use Rattle.gr_replay.specs.Judged.{legal as legal_as, not_legal as not_legal_as};
 ghost use Rattle.gr_top.specs.Commands.{asked as asked_of, is_on_text, is_read as reads_source, is_run, limit_of, IsUnread};
 ghost use Rattle.gr_top.specs.Due.{accepted, refused as refused_as, bad_line as bad_line_of, judged as judged_as, status_of, told, IsWritten};
+ghost use Rattle.gr_top.specs.Counts.{CountsReads, CountsWrites, CountsStop};
 ghost use Rattle.gr_top.specs.Readings.{ReadsAs, ReplaysAs, IsDue, Answered, IsRunOf, IsWorldOf, IsDelivered, IsRetold, Refusing};
 ghost use Rattle.gr_top.specs.Texts.{prints};
 ghost use Rattle.gr_top.specs.Views.{made};
@@ -71,8 +73,10 @@ fn answer<S: Source>(alloc: Global, words: &[String], source: &mut S) -> Result<
         × IsDue words.now bytes a.world (made a) × IsWorldOf words.now bytes a.world) }
     ensures written { IfOk result (λ a. IsWritten a.refusal) }
     ensures unread { IsUnread (asked_of words.now) → source.new ≡ source.old }
+    ensures within { IfSome (asked_of words.now) (λ o. ConsumesAtMost (S.left source.old) (S.left source.new) (limit_of o.command + 1)) }
     ensures fault { IsErrOf result Stop.ReadFault → Rose (S.faults source.old) (S.faults source.new) }
     ensures later { S.faults source.old ≤ S.faults source.new }
+    ensures counted { CountsStop (S.faults source.old) (S.faults source.new) result }
 {
     let Some(options) = asked(alloc, words)? else {
         let answer = said(alloc, Refusal::Usage, USAGE)?;
@@ -140,11 +144,13 @@ pub fn top<S: Source, K: Sink>(
     ensures refuses { IfSome (S.left source.old) (λ bytes. (o : Options) (f : Fault) → length bytes ≤ 2 ^ 20 → ReadsAs bytes (refused_as f)
         → asked_of words.now ≡ Some o → is_on_text o.command ≡ true → (Rose (S.faults source.old) (S.faults source.new) → ⊥) → (Rose (K.faults sink.old) (K.faults sink.new) → ⊥) → (result.refusal ≡ Refusal.Refused f.kind f.at.line f.at.column) ⊎ (result.status ≡ 6)) }
 
-    // With neither an answer nor a fault of the sink, nothing is written.
+    // With neither an answer nor a fault of the sink, the sink isn't asked. However the call ends, no more is read than one byte beyond the limit.
     ensures silent { (result.refusal ≡ Refusal.Memory) ⊎ (result.refusal ≡ Refusal.ReadFault)
         → Keeps (K.got sink.old) (K.got sink.new) × (result.world ≡ None) }
+    ensures untouched { (result.refusal ≡ Refusal.Memory) ⊎ (result.refusal ≡ Refusal.ReadFault) → sink.new ≡ sink.old }
+    ensures within { IfSome (asked_of words.now) (λ o. ConsumesAtMost (S.left source.old) (S.left source.new) (limit_of o.command + 1)) }
 
-    // When each refusal comes.
+    // When each refusal comes; a fault of the source or of the sink is told, and counted once.
     ensures usage { result.refusal ≡ Refusal.Usage → asked_of words.now ≡ None }
     ensures unread { IsUnread (asked_of words.now) → source.new ≡ source.old }
     ensures too_long { result.refusal ≡ Refusal.TooLong → IfSome (S.left source.old) (λ bytes. IfSome (asked_of words.now) (λ o. limit_of o.command < length bytes)) }
@@ -154,10 +160,8 @@ pub fn top<S: Source, K: Sink>(
         → IfSome (S.left source.old) (λ bytes. ReplaysAs (program_part bytes) (history_part bytes) (judged_as (not_legal_as entry))) }
     ensures bad_line { (line : ℕ) → result.refusal ≡ Refusal.BadLine line
         → IfSome (S.left source.old) (λ bytes. ReplaysAs (program_part bytes) (history_part bytes) (bad_line_of line)) }
-    ensures read_fault { result.refusal ≡ Refusal.ReadFault → Rose (S.faults source.old) (S.faults source.new) }
-    ensures write_fault { (written : ℕ) → result.refusal ≡ Refusal.WriteFault written → Rose (K.faults sink.old) (K.faults sink.new) }
-    ensures source_later { S.faults source.old ≤ S.faults source.new }
-    ensures sink_later { K.faults sink.old ≤ K.faults sink.new }
+    ensures read_fault { CountsReads result.refusal (S.faults source.old) (S.faults source.new) }
+    ensures write_fault { CountsWrites result.refusal (K.faults sink.old) (K.faults sink.new) }
     ensures status { result.status ≡ status_of result.refusal }
 {
     let found = answer(alloc, words, source);

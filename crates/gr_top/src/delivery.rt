@@ -1,6 +1,7 @@
 //! The one place that writes.
-ghost use Rattle.std.specs.Prelude.{◌≡◌, ◌≢◌, ℕ, ◌≤◌, is_some};
+ghost use Rattle.std.specs.Prelude.{◌≡◌, ◌≢◌, ℕ, is_some};
 ghost use Rattle.gr_io.specs.Faults.{Rose};
+ghost use Rattle.gr_top.specs.Counts.{CountsWrites};
 ghost use Rattle.gr_top.specs.Due.{status_of, Came, IsWritten};
 
 use crate::answer::{Answer, Refusal, RunEnd};
@@ -34,7 +35,7 @@ pub(crate) fn deliver<K: Sink>(sink: &mut K, answer: Answer) -> RunEnd
     ensures world { result.world ≡ answer.world }
     ensures fault { (written : ℕ) → result.refusal ≡ Refusal.WriteFault written → Rose (K.faults sink.old) (K.faults sink.new) }
     ensures given { ((written : ℕ) → result.refusal ≢ Refusal.WriteFault written) → result.refusal ≡ answer.refusal }
-    ensures later { K.faults sink.old ≤ K.faults sink.new }
+    ensures counted { CountsWrites result.refusal (K.faults sink.old) (K.faults sink.new) }
 {
     let Answer {
         refusal,

@@ -1,5 +1,5 @@
 //! From a text to an accepted program, or to its first fault.
-ghost use Rattle.std.specs.Prelude.{◌≡◌, true, IfOk, Ok};
+ghost use Rattle.std.specs.Prelude.{◌≡◌, true, IfOk, IsErr, Ok};
 ghost use Rattle.gr_lang.specs.Targets.{targets_fit};
 ghost use Rattle.gr_parse.specs.Grammar.{IsProgramOf, Says};
 ghost use Rattle.gr_text.specs.Text.{Reads, IsFaultOf};
@@ -35,7 +35,8 @@ fn refused(kind: Kind, at: Place) -> TextRead
 /// The fault that was found while the tokens were read.
 fn token_fault(text: &[u8], error: TextError) -> Result<TextRead, AllocError>
     requires { IsFaultOf text.now error }
-    ensures { IfOk result (λ read. ReadsAs text.now (reading_of read)) }
+    ensures reads { IfOk result (λ read. ReadsAs text.now (reading_of read)) }
+    ensures memory { IsErr result → error ≡ TextError.OutOfMemory }
 {
     match error {
         TextError::BadByte { at } => Ok(refused(Kind::BadByte, place(text, at))),
@@ -49,7 +50,8 @@ fn token_fault(text: &[u8], error: TextError) -> Result<TextRead, AllocError>
 fn grammar_fault(text: &[u8], tokens: &Tokens, error: ParseError) -> Result<TextRead, AllocError>
     requires reads { Reads text.now (Ok tokens.now) }
     requires says { Says error text.now tokens.now }
-    ensures { IfOk result (λ read. ReadsAs text.now (reading_of read)) }
+    ensures reads { IfOk result (λ read. ReadsAs text.now (reading_of read)) }
+    ensures memory { IsErr result → error ≡ ParseError.OutOfMemory }
 {
     let _ = text;
     let _ = tokens;
@@ -66,7 +68,8 @@ fn grammar_fault(text: &[u8], tokens: &Tokens, error: ParseError) -> Result<Text
 
 /// The fault that was found by the checker.
 fn checker_fault(error: CheckError) -> Result<Fault, AllocError>
-    ensures { IfOk result (λ f. error ≡ CheckError.Refused f.kind f.at.line f.at.column) }
+    ensures fault { IfOk result (λ f. error ≡ CheckError.Refused f.kind f.at.line f.at.column) }
+    ensures memory { IsErr result → error ≡ CheckError.OutOfMemory }
 {
     match error {
         CheckError::Refused { kind, line, column } => Ok(Fault {

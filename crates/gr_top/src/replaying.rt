@@ -1,5 +1,5 @@
 //! From a source with a program text and a history text to the verdict on the history.
-ghost use Rattle.std.specs.Prelude.{◌≡◌, ℕ, List, string_bytes, IfOk, None};
+ghost use Rattle.std.specs.Prelude.{◌≡◌, ℕ, List, string_bytes, IfOk, IsErr, None};
 ghost use Rattle.gr_replay.specs.Division.{program_part, history_part};
 ghost use Rattle.gr_replay.specs.Judged.{Verdict, Judged};
 ghost use Rattle.gr_top.specs.Due.{Replayed as Finding, accepted as accepted_as, due_judged, due_replayed, IsWritten};
@@ -50,7 +50,8 @@ fn judged(alloc: Global, program: &Accepted, text: &HistoryText) -> Result<Answe
 
 /// The bad line that was found.
 fn bad_line(error: HistError) -> Result<u64, AllocError>
-    ensures { IfOk result (λ line. error ≡ HistError.BadLine line) }
+    ensures line { IfOk result (λ line. error ≡ HistError.BadLine line) }
+    ensures memory { IsErr result → error ≡ HistError.OutOfMemory }
 {
     match error {
         HistError::BadLine { line } => Ok(line),

@@ -9,6 +9,7 @@ use Rattle.gr_top.proofs.Dues.{if_some, of_some}
 use Rattle.gr_top.proofs.Calls.{answer_told, usage_of, too_long_of, refused_of, entry_of, line_of, headline_of, check_of, run_of, replay_of, refuse_of, either_of, if_checks, if_runs, if_replays, if_refuses}
 use Rattle.gr_top.specs.declared.answer.Refusal.TheVariants as r
 use Rattle.gr_top.proofs.Retold.{world_retold}
+use Rattle.gr_top.proofs.Counted.{reads_quiet}
 use Rattle.gr_top.proofs.call.top.Goals as goal
 
 judged_once : JudgedOnce
@@ -61,6 +62,9 @@ returns-in-Ok-clause-refuses g c =
     if_refuses c.args.words.now _ _ _ (λ f. (c.deliver.result.refusal ≡ r.Refused f.kind f.at.line f.at.column) ⊎ (c.deliver.result.status ≡ 6)) (λ bytes e o f few reads some on quiet silent.
     inl (refuse_of c.args.words.now c.in-Ok.answer _ _ c.deliver.result.refusal c.deliver.result.world c.deliver.ensures.world c.deliver.ensures.came reads_once judged_once bytes o f
     (of_some (λ (bs : List ℕ). IsDue c.args.words.now bs c.in-Ok.answer.world (made c.in-Ok.answer)) _ bytes e c.in-Ok.ensures.due) few reads some on (λ written k. silent (c.deliver.ensures.fault written k))))
+
+pub returns-in-Ok-clause-read_fault : goal.returns-in-Ok-clause-read_fault
+returns-in-Ok-clause-read_fault g c = reads_quiet c.deliver.result.refusal _ _ c.deliver.ensures.not_read_fault c.in-Ok.ensures.counted
 
 pub returns-in-Ok-clause-usage : goal.returns-in-Ok-clause-usage
 returns-in-Ok-clause-usage g c = λ u.

@@ -12,4 +12,4 @@ returns-in-Ok c =
 
 pub returns-in_ok-fault-in-Err : goal.returns-in_ok-fault-in-Err
 returns-in_ok-fault-in-Err c =
-    ReadsAs.checked c.requires.reads c.requires.spelled (subst (λ (e : CheckError). Refuses e c.args.program) c.in_ok-fault-in-Err.ensures c.in-Err.ensures.refused)
+    ReadsAs.checked c.requires.reads c.requires.spelled (subst (λ (e : CheckError). Refuses e c.args.program) c.in_ok-fault-in-Err.ensures.fault c.in-Err.ensures.refused)

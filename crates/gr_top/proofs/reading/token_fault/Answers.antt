@@ -20,20 +20,20 @@ place-requires-in-NumberTooWide c = wide_within c.args.text.now c.in-NumberTooWi
 pub place-requires-in-NameTooLong : goal.place-requires-in-NameTooLong
 place-requires-in-NameTooLong c = long_within c.args.text.now c.in-NameTooLong.at (subst (IsFaultOf c.args.text.now) c.in-NameTooLong.is c.requires)
 
-pub returns-in-BadByte : goal.returns-in-BadByte
-returns-in-BadByte c =
+pub returns-in-BadByte-clause-reads : goal.returns-in-BadByte-clause-reads
+returns-in-BadByte-clause-reads c =
     let reads : Reads c.args.text.now (Err (faults.BadByte c.in-BadByte.at)) = subst (IsFaultOf c.args.text.now) c.in-BadByte.is c.requires in
     subst (λ (x : TextRead). ReadsAs c.args.text.now (reading_of x)) (sym c.refused.ensures)
     (subst (λ (p : Place). ReadsAs c.args.text.now (refused (fault k.BadByte p))) (sym c.place.ensures) (ReadsAs.bad_byte reads))
 
-pub returns-in-NumberTooWide : goal.returns-in-NumberTooWide
-returns-in-NumberTooWide c =
+pub returns-in-NumberTooWide-clause-reads : goal.returns-in-NumberTooWide-clause-reads
+returns-in-NumberTooWide-clause-reads c =
     let reads : Reads c.args.text.now (Err (faults.NumberTooWide c.in-NumberTooWide.at)) = subst (IsFaultOf c.args.text.now) c.in-NumberTooWide.is c.requires in
     subst (λ (x : TextRead). ReadsAs c.args.text.now (reading_of x)) (sym c.refused-in-NumberTooWide.ensures)
     (subst (λ (p : Place). ReadsAs c.args.text.now (refused (fault k.NumberTooWide p))) (sym c.place-in-NumberTooWide.ensures) (ReadsAs.wide_number reads))
 
-pub returns-in-NameTooLong : goal.returns-in-NameTooLong
-returns-in-NameTooLong c =
+pub returns-in-NameTooLong-clause-reads : goal.returns-in-NameTooLong-clause-reads
+returns-in-NameTooLong-clause-reads c =
     let reads : Reads c.args.text.now (Err (faults.NameTooLong c.in-NameTooLong.at)) = subst (IsFaultOf c.args.text.now) c.in-NameTooLong.is c.requires in
     subst (λ (x : TextRead). ReadsAs c.args.text.now (reading_of x)) (sym c.refused-in-NameTooLong.ensures)
     (subst (λ (p : Place). ReadsAs c.args.text.now (refused (fault k.NameTooLong p))) (sym c.place-in-NameTooLong.ensures) (ReadsAs.long_name reads))

@@ -12,7 +12,7 @@ returns-in_ok-answer-in-Ok-clause-due c = λ text h.
 
 pub returns-in_ok-words-in-Err-clause-due : goal.returns-in_ok-words-in-Err-clause-due
 returns-in_ok-words-in-Err-clause-due c = λ text h.
-    let reads : ReadsText c.args.history.now (Err c.in_ok-line-in-Err.line) = subst (SaysError c.args.history.now) c.in_ok-line-in-Err.ensures c.in-Err.ensures.reads in (
+    let reads : ReadsText c.args.history.now (Err c.in_ok-line-in-Err.line) = subst (SaysError c.args.history.now) c.in_ok-line-in-Err.ensures.line c.in-Err.ensures.reads in (
       bad_line c.in_ok-line-in-Err.line,
       ReplaysAs.of_line h reads,
       is_made c.told.result (due_replayed (bad_line c.in_ok-line-in-Err.line)) c.told.ensures.0 (c.told.ensures.1 ∙ c.in_ok-words-in-Err.ensures) (ap is_some c.told.ensures.2),
