@@ -4,25 +4,25 @@ use Rattle.std.specs.Str.{bytes_eq}
 use Rattle.std.proofs.lemmas.Bool.Decides.{nat_tests}
 use Rattle.std.proofs.lemmas.List.Folds.{list_any-append}
 use Rattle.std.proofs.lemmas.Slice.Eq.{bytes_eq-Decides}
-use Rattle.gr_lang.specs.declared.syntax.Item.{Item}
-use Rattle.gr_lang.specs.declared.syntax.Item.TheVariants as i
-use Rattle.gr_lang.specs.declared.syntax.Place.{Place}
-use Rattle.gr_lang.specs.Names.{has, with_name}
+use Rattle.gr_syntax.specs.declared.syntax.Item.{Item}
+use Rattle.gr_syntax.specs.declared.syntax.Item.TheVariants as i
+use Rattle.gr_syntax.specs.declared.syntax.Place.{Place}
+use Rattle.gr_syntax.specs.Names.{has, with_name}
 use Rattle.gr_checker.specs.Earliest.{least, seen}
-use Rattle.gr_lang.specs.Faults.{when}
-use Rattle.gr_lang.specs.Declarations.{Meaning, first_named, first_of, declaration}
+use Rattle.gr_syntax.specs.Faults.{when}
+use Rattle.gr_accept.specs.Declarations.{Meaning, first_named, first_of, declaration}
 use Rattle.gr_checker.specs.Meanings.{named, with_meaning}
 use Rattle.gr_checker.specs.Heads.{item_declared, all_declared, none}
-use Rattle.gr_lang.specs.Sites.{ends}
-use Rattle.gr_lang.specs.Conditions.{faults_at, has_main, objects_in, tasks_in, words_in, inputs_in}
-use Rattle.gr_lang.specs.Accepted.{faults, sites, uses_sites, head_sites, heads_sites}
+use Rattle.gr_accept.specs.Sites.{ends}
+use Rattle.gr_accept.specs.Conditions.{faults_at, has_main, objects_in, tasks_in, words_in, inputs_in}
+use Rattle.gr_accept.specs.Accepted.{faults, sites, uses_sites, head_sites, heads_sites}
 use Rattle.gr_checker.specs.declared.heads.Heads.{Heads}
-use Rattle.gr_lang.specs.declared.operation.Declared.{Declared}
-use Rattle.gr_lang.specs.declared.operation.Declared.TheVariants as t
-use Rattle.gr_lang.specs.declared.syntax.Program.{Program}
-use Rattle.gr_lang.specs.declared.refusal.Kind.{Kind}
-use Rattle.gr_lang.specs.declared.refusal.Kind.TheVariants as k
-use Rattle.gr_lang.specs.declared.refusal.Fault.{Fault}
+use Rattle.gr_accept.specs.declared.operation.Declared.{Declared}
+use Rattle.gr_accept.specs.declared.operation.Declared.TheVariants as t
+use Rattle.gr_syntax.specs.declared.syntax.Program.{Program}
+use Rattle.gr_syntax.specs.declared.refusal.Kind.{Kind}
+use Rattle.gr_syntax.specs.declared.refusal.Kind.TheVariants as k
+use Rattle.gr_syntax.specs.declared.refusal.Fault.{Fault}
 use Rattle.gr_checker.proofs.Leasts.{least-append, seen-append, seen-least}
 
 abbrev pub or_else : Option Declared → Option Declared → Option Declared

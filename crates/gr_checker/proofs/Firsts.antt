@@ -2,11 +2,11 @@
 use Rattle.std.proofs.Common.{◌==◌, nat_lt, subst, slice_index_or, ◌≡◌, ℕ, zero, suc, ◌<◌, Bool, true, false, if◌then◌else◌, List, [], ◌∷◌, length, Option, Some, None, Contains, refl, sym, ap, ◌∙◌, arith, ◌⊎◌, inl, inr}
 use Rattle.std.specs.List.{All}
 use Rattle.std.proofs.lemmas.Bool.Decides.{nat_tests}
-use Rattle.gr_lang.specs.Faults.{comes_before, rank, IsFirst}
+use Rattle.gr_syntax.specs.Faults.{comes_before, rank, IsFirst}
 use Rattle.gr_checker.specs.Earliest.{least}
-use Rattle.gr_lang.specs.declared.refusal.Fault.{Fault}
-use Rattle.gr_lang.specs.declared.refusal.Kind.{Kind}
-use Rattle.gr_lang.specs.declared.refusal.Kind.TheVariants as k
+use Rattle.gr_syntax.specs.declared.refusal.Fault.{Fault}
+use Rattle.gr_syntax.specs.declared.refusal.Kind.{Kind}
+use Rattle.gr_syntax.specs.declared.refusal.Kind.TheVariants as k
 
 all-cons : {X : Type 0} (P : X → Type 0) (x : X) (xs : List X) → P x → All P xs → All P (x ∷ xs)
 all-cons P x xs p ps zero d h = p

@@ -1,10 +1,10 @@
 -- The first of two lists, one after the other.
 use Rattle.std.proofs.Common.{◌≡◌, List, [], ◌∷◌, ◌++◌, Option, flat_map, refl, ◌∙◌, sym}
 use Rattle.gr_checker.specs.Earliest.{least, noted, seen}
-use Rattle.gr_lang.specs.Declarations.{Meaning}
-use Rattle.gr_lang.specs.Sites.{Site}
-use Rattle.gr_lang.specs.Conditions.{faults_at}
-use Rattle.gr_lang.specs.declared.refusal.Fault.{Fault}
+use Rattle.gr_accept.specs.Declarations.{Meaning}
+use Rattle.gr_accept.specs.Sites.{Site}
+use Rattle.gr_accept.specs.Conditions.{faults_at}
+use Rattle.gr_syntax.specs.declared.refusal.Fault.{Fault}
 
 pub least-append : (found : Option Fault) (fs gs : List Fault) → least found (fs ++ gs) ≡ least (least found fs) gs
 least-append found [] gs = refl

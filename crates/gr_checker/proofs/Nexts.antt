@@ -1,15 +1,15 @@
 -- What a walk over a list has left, one item on.
 use Rattle.std.proofs.Common.{◌≡◌, ℕ, suc, ◌+◌, ◌<◌, List, length, drop, get_or, Option, add-one}
 use Rattle.std.proofs.Math.Seq.{drop-cons}
-use Rattle.gr_lang.specs.declared.syntax.Expr.{Expr}
-use Rattle.gr_lang.specs.declared.syntax.Stmt.{Stmt}
-use Rattle.gr_lang.specs.declared.syntax.Item.{Item}
-use Rattle.gr_lang.specs.Declarations.{Meaning}
+use Rattle.gr_syntax.specs.declared.syntax.Expr.{Expr}
+use Rattle.gr_syntax.specs.declared.syntax.Stmt.{Stmt}
+use Rattle.gr_syntax.specs.declared.syntax.Item.{Item}
+use Rattle.gr_accept.specs.Declarations.{Meaning}
 use Rattle.gr_checker.specs.Earliest.{seen}
-use Rattle.gr_lang.specs.Walks.{expr_sites, exprs_sites, stmt, stmts}
+use Rattle.gr_accept.specs.Walks.{expr_sites, exprs_sites, stmt, stmts}
 use Rattle.gr_checker.specs.Walked.{after}
-use Rattle.gr_lang.specs.Accepted.{use_sites, uses_sites}
-use Rattle.gr_lang.specs.declared.refusal.Fault.{Fault}
+use Rattle.gr_accept.specs.Accepted.{use_sites, uses_sites}
+use Rattle.gr_syntax.specs.declared.refusal.Fault.{Fault}
 use Rattle.gr_checker.specs.declared.walk.Walk.{Walk}
 use Rattle.gr_checker.proofs.Leasts.{seen-append}
 use Rattle.gr_checker.proofs.Statements.{after-both}

@@ -1,14 +1,14 @@
 -- One level of a statement, as a walk after walks.
 use Rattle.std.proofs.Common.{refl, ◌∷◌, ◌≡◌, Bool, List, [], map, ap}
-use Rattle.gr_lang.specs.declared.syntax.Name.{Name}
-use Rattle.gr_lang.specs.declared.syntax.Expr.{Expr}
-use Rattle.gr_lang.specs.declared.syntax.Right.{Right}
-use Rattle.gr_lang.specs.declared.syntax.HowText.{HowText}
-use Rattle.gr_lang.specs.declared.syntax.CallText.{CallText}
-use Rattle.gr_lang.specs.declared.syntax.Stmt.{Stmt, the_lemmas}
-use Rattle.gr_lang.specs.declared.syntax.Stmt.TheVariants as s
-use Rattle.gr_lang.specs.Declarations.{Meaning}
-use Rattle.gr_lang.specs.Walks.{Part, only, both, all, closed, targets, expr_sites, call_sites, right_sites, spawn_sites, forall_sites, stmt, stmts}
+use Rattle.gr_syntax.specs.declared.syntax.Name.{Name}
+use Rattle.gr_syntax.specs.declared.syntax.Expr.{Expr}
+use Rattle.gr_syntax.specs.declared.syntax.Right.{Right}
+use Rattle.gr_syntax.specs.declared.syntax.HowText.{HowText}
+use Rattle.gr_syntax.specs.declared.syntax.CallText.{CallText}
+use Rattle.gr_syntax.specs.declared.syntax.Stmt.{Stmt, the_lemmas}
+use Rattle.gr_syntax.specs.declared.syntax.Stmt.TheVariants as s
+use Rattle.gr_accept.specs.Declarations.{Meaning}
+use Rattle.gr_accept.specs.Walks.{Part, only, both, all, closed, targets, expr_sites, call_sites, right_sites, spawn_sites, forall_sites, stmt, stmts}
 use Rattle.gr_checker.specs.Walked.{scope_of, after}
 use Rattle.gr_checker.specs.declared.walk.Walk.{Walk}
 use Rattle.gr_checker.proofs.Leasts.{seen-append}

@@ -5,10 +5,10 @@ use Rattle.std.specs.Str.{bytes_eq}
 use Rattle.std.specs.Map.{lookup}
 use Rattle.indexmap.specs.IndexMap.{insert_entry}
 use Rattle.gr_checker.specs.Meanings.{named}
-use Rattle.gr_lang.specs.declared.operation.Declared.{Declared}
+use Rattle.gr_accept.specs.declared.operation.Declared.{Declared}
 use Rattle.std.proofs.lemmas.List.{take-map, map-append}
 use Rattle.indexmap.specs.IndexSet.{insert_key}
-use Rattle.gr_lang.specs.Names.{has, with_name}
+use Rattle.gr_syntax.specs.Names.{has, with_name}
 
 abbrev pub now_of : Bor (List ℕ) → List ℕ
 now_of t = t.now

@@ -1,12 +1,12 @@
 -- One level of an expression.
 use Rattle.std.proofs.Common.{◌≡◌, ℕ, List, [], ◌∷◌, ◌++◌}
-use Rattle.gr_lang.specs.declared.syntax.Expr.{Expr, the_lemmas}
-use Rattle.gr_lang.specs.declared.syntax.Expr.TheVariants as e
-use Rattle.gr_lang.specs.declared.syntax.BinOp.{BinOp}
-use Rattle.gr_lang.specs.declared.syntax.Name.{Name}
-use Rattle.gr_lang.specs.declared.syntax.Number.{Number}
-use Rattle.gr_lang.specs.Sites.{mentions}
-use Rattle.gr_lang.specs.Walks.{expr_sites}
+use Rattle.gr_syntax.specs.declared.syntax.Expr.{Expr, the_lemmas}
+use Rattle.gr_syntax.specs.declared.syntax.Expr.TheVariants as e
+use Rattle.gr_syntax.specs.declared.syntax.BinOp.{BinOp}
+use Rattle.gr_syntax.specs.declared.syntax.Name.{Name}
+use Rattle.gr_syntax.specs.declared.syntax.Number.{Number}
+use Rattle.gr_accept.specs.Sites.{mentions}
+use Rattle.gr_accept.specs.Walks.{expr_sites}
 use Rattle.gr_checker.proofs.Leasts.{least-append, seen-append}
 
 module _ (visible : List (List ℕ)) where

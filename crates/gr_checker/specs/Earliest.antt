@@ -1,10 +1,10 @@
 -- The earliest of the faults that were noted so far, one fault and one site after the other.
 use Rattle.std.specs.Prelude.{if◌then◌else◌, List, [], ◌∷◌, Option, Some, None}
-use Rattle.gr_lang.specs.Conditions.{faults_at}
-use Rattle.gr_lang.specs.Declarations.{Meaning}
-use Rattle.gr_lang.specs.Faults.{comes_before}
-use Rattle.gr_lang.specs.Sites.{Site}
-use Rattle.gr_lang.specs.declared.refusal.Fault.{Fault}
+use Rattle.gr_accept.specs.Conditions.{faults_at}
+use Rattle.gr_accept.specs.Declarations.{Meaning}
+use Rattle.gr_syntax.specs.Faults.{comes_before}
+use Rattle.gr_accept.specs.Sites.{Site}
+use Rattle.gr_syntax.specs.declared.refusal.Fault.{Fault}
 
 abbrev pub noted : Option Fault → Fault → Option Fault
 noted None f = Some f

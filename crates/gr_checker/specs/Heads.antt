@@ -1,18 +1,18 @@
 -- What the pass over the heads of the items keeps, item by item. Counts and the sum of words stop at one more than what is allowed.
 use Rattle.std.specs.Prelude.{None, ℕ, ◌+◌, ◌≤◌, ◌^◌, ◌==◌, min, ◌&&◌, nat_le, nat_lt, is_some, List, [], ◌∷◌, length, codes}
-use Rattle.gr_lang.specs.declared.syntax.Item.{Item}
-use Rattle.gr_lang.specs.declared.syntax.Item.TheVariants as i
-use Rattle.gr_lang.specs.declared.syntax.Name.{Name}
-use Rattle.gr_lang.specs.declared.syntax.Number.{Number}
-use Rattle.gr_lang.specs.declared.syntax.Place.{Place}
-use Rattle.gr_lang.specs.Names.{has, with_name}
+use Rattle.gr_syntax.specs.declared.syntax.Item.{Item}
+use Rattle.gr_syntax.specs.declared.syntax.Item.TheVariants as i
+use Rattle.gr_syntax.specs.declared.syntax.Name.{Name}
+use Rattle.gr_syntax.specs.declared.syntax.Number.{Number}
+use Rattle.gr_syntax.specs.declared.syntax.Place.{Place}
+use Rattle.gr_syntax.specs.Names.{has, with_name}
 use Rattle.gr_checker.specs.Earliest.{least}
-use Rattle.gr_lang.specs.Faults.{when}
+use Rattle.gr_syntax.specs.Faults.{when}
 use Rattle.gr_checker.specs.Meanings.{named, with_meaning}
 use Rattle.gr_checker.specs.declared.heads.Heads.{Heads}
-use Rattle.gr_lang.specs.declared.operation.Declared.{Declared}
-use Rattle.gr_lang.specs.declared.operation.Declared.TheVariants as t
-use Rattle.gr_lang.specs.declared.refusal.Kind.TheVariants as k
+use Rattle.gr_accept.specs.declared.operation.Declared.{Declared}
+use Rattle.gr_accept.specs.declared.operation.Declared.TheVariants as t
+use Rattle.gr_syntax.specs.declared.refusal.Kind.TheVariants as k
 
 pub record IsCapped (h : Heads) : Type 0 where
   pub objects : h.objects ≤ 65

@@ -1,8 +1,8 @@
 -- A table of what names mean, as a list in which the first entry of a name tells.
 use Rattle.std.specs.Prelude.{ℕ, if◌then◌else◌, List, [], ◌∷◌, ◌++◌, Some, None, is_some}
 use Rattle.std.specs.Str.{bytes_eq}
-use Rattle.gr_lang.specs.Declarations.{Meaning}
-use Rattle.gr_lang.specs.declared.operation.Declared.{Declared}
+use Rattle.gr_accept.specs.Declarations.{Meaning}
+use Rattle.gr_accept.specs.declared.operation.Declared.{Declared}
 
 abbrev pub named : List (List ℕ × Declared) → Meaning
 named [] name = None

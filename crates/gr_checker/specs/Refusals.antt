@@ -1,7 +1,7 @@
 -- What a refusal says of the program.
-use Rattle.gr_lang.specs.declared.syntax.Program.{Program}
-use Rattle.gr_lang.specs.Faults.{fault, IsFirst}
-use Rattle.gr_lang.specs.Accepted.{faults}
+use Rattle.gr_syntax.specs.declared.syntax.Program.{Program}
+use Rattle.gr_syntax.specs.Faults.{fault, IsFirst}
+use Rattle.gr_accept.specs.Accepted.{faults}
 use Rattle.gr_checker.specs.declared.check.CheckError.{CheckError}
 use Rattle.gr_checker.specs.declared.check.CheckError.TheVariants as e
 

@@ -1,6 +1,6 @@
 -- A walk through a task's text after one more part of it.
-use Rattle.gr_lang.specs.Declarations.{Meaning}
-use Rattle.gr_lang.specs.Walks.{Part, LexicalScope}
+use Rattle.gr_accept.specs.Declarations.{Meaning}
+use Rattle.gr_accept.specs.Walks.{Part, LexicalScope}
 use Rattle.gr_checker.specs.Earliest.{seen}
 use Rattle.gr_checker.specs.declared.walk.Walk.{Walk}
 

@@ -1,20 +1,20 @@
 //! Expressions and calls.
 ghost use Rattle.std.specs.Prelude.{◌≡◌, [], ◌∷◌, slice_get};
 ghost use Rattle.gr_checker.specs.Earliest.{least, seen};
-ghost use Rattle.gr_lang.specs.Conditions as spec;
-ghost use Rattle.gr_lang.specs.Sites.{mentions, calls, starts, shows};
+ghost use Rattle.gr_accept.specs.Conditions as spec;
+ghost use Rattle.gr_accept.specs.Sites.{mentions, calls, starts, shows};
 ghost use Rattle.gr_checker.specs.Meanings.{named};
-ghost use Rattle.gr_lang.specs.Walks.{expr_sites, exprs_sites, locals_sites, call_sites};
+ghost use Rattle.gr_accept.specs.Walks.{expr_sites, exprs_sites, locals_sites, call_sites};
 
 use crate::earliest::Earliest;
 use crate::meanings::Meanings;
 use crate::name_set::NameSet;
-use gr_lang::operation::{Declared, Operation, operation_of, reducer_of};
-use gr_lang::refusal::Kind;
-use gr_lang::syntax::{CallText, Expr, Name};
+use gr_accept::{Declared, Operation, operation_of, reducer_of};
+use gr_syntax::Kind;
+use gr_syntax::{CallText, Expr, Name};
 
 /// Notes a local that is read or assigned and isn't visible.
-#[tactic(auto, unfolding(gr_lang::specs::Conditions::faults_at), using(crate::proofs::Leasts::leasts))]
+#[tactic(auto, unfolding(gr_accept::specs::Conditions::faults_at), using(crate::proofs::Leasts::leasts))]
 pub fn check_local(meanings: &Meanings, found: &mut Earliest, visible: &NameSet, name: &Name)
     ensures { found.new ≡ seen (named meanings.now) found.old (mentions name.now visible.now ∷ []) }
 {
@@ -129,7 +129,7 @@ fn miscounts(declared: Option<Declared>, operation: Option<Operation>, count: us
 }
 
 /// Notes a `show` of a name that is no object.
-#[tactic(auto, unfolding(gr_lang::specs::Conditions::faults_at), using(crate::proofs::Leasts::leasts))]
+#[tactic(auto, unfolding(gr_accept::specs::Conditions::faults_at), using(crate::proofs::Leasts::leasts))]
 pub fn check_shown(meanings: &Meanings, found: &mut Earliest, name: &Name)
     ensures { found.new ≡ seen (named meanings.now) found.old (shows name.now ∷ []) }
 {
@@ -139,7 +139,7 @@ pub fn check_shown(meanings: &Meanings, found: &mut Earliest, name: &Name)
 }
 
 /// Notes the start of what is no task, or of a task with another number of parameters than `count`.
-#[tactic(auto, unfolding(gr_lang::specs::Conditions::faults_at), using(crate::proofs::Leasts::leasts))]
+#[tactic(auto, unfolding(gr_accept::specs::Conditions::faults_at), using(crate::proofs::Leasts::leasts))]
 pub fn check_start(meanings: &Meanings, found: &mut Earliest, name: &Name, count: usize)
     ensures { found.new ≡ seen (named meanings.now) found.old (starts name.now count ∷ []) }
 {
@@ -169,7 +169,7 @@ fn check_first(found: &mut Earliest, is_wrong: bool, targets: &[Name])
     }
 }
 
-#[tactic(auto, unfolding(gr_lang::specs::Conditions::faults_at), using(crate::proofs::Leasts::leasts))]
+#[tactic(auto, unfolding(gr_accept::specs::Conditions::faults_at), using(crate::proofs::Leasts::leasts))]
 fn check_operation(meanings: &Meanings, found: &mut Earliest, targets: &[Name], call: &CallText)
     ensures { found.new ≡ seen (named meanings.now) found.old (calls call.now targets.now ∷ []) }
 {

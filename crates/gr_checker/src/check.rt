@@ -1,11 +1,11 @@
 //! The whole check of a program.
 ghost use Rattle.std.specs.Prelude.{◌≡◌, true, [], OnOk, IfOk, IfErr};
 ghost use Rattle.gr_checker.specs.Earliest.{least, seen};
-ghost use Rattle.gr_lang.specs.Accepted.{faults, uses_sites, IsAccepted};
+ghost use Rattle.gr_accept.specs.Accepted.{faults, uses_sites, IsAccepted};
 ghost use Rattle.gr_checker.specs.Heads as heads_spec;
-ghost use Rattle.gr_lang.specs.Conditions as condition;
+ghost use Rattle.gr_accept.specs.Conditions as condition;
 ghost use Rattle.gr_checker.specs.Meanings.{named};
-ghost use Rattle.gr_lang.specs.Targets.{targets_fit};
+ghost use Rattle.gr_syntax.specs.Targets.{targets_fit};
 ghost use Rattle.gr_checker.specs.Refusals.{Refuses};
 
 use crate::earliest::Earliest;
@@ -13,9 +13,9 @@ use crate::heads::{Heads, declare};
 use crate::meanings::Meanings;
 use crate::name_set::NameSet;
 use crate::uses::use_item;
-use gr_lang::accepted::Accepted;
-use gr_lang::refusal::{Fault, Kind};
-use gr_lang::syntax::{Item, Program};
+use gr_accept::Accepted;
+use gr_syntax::{Fault, Kind};
+use gr_syntax::{Item, Program};
 use std::alloc::{AllocError, Global};
 use thiserror::Error;
 

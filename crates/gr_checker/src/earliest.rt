@@ -1,10 +1,10 @@
 //! The earliest of the faults that were noted.
 ghost use Rattle.std.specs.Prelude.{◌≡◌, [], ◌∷◌};
-ghost use Rattle.gr_lang.specs.Faults.{comes_before, when};
+ghost use Rattle.gr_syntax.specs.Faults.{comes_before, when};
 ghost use Rattle.gr_checker.specs.Earliest.{least};
 
-use gr_lang::refusal::{Fault, Kind};
-use gr_lang::syntax::Place;
+use gr_syntax::{Fault, Kind};
+use gr_syntax::Place;
 use std::marker::Model;
 
 fn is_before(one: &Fault, other: &Fault) -> bool
@@ -27,7 +27,7 @@ pub struct Earliest {
 
 impl Model for Earliest {
     ghost use Rattle.std.specs.Prelude.{Option};
-    ghost use Rattle.gr_lang.specs.declared.refusal.Fault.{Fault};
+    ghost use Rattle.gr_syntax.specs.declared.refusal.Fault.{Fault};
 
     ghost Value = { Option Fault };
 

@@ -5,9 +5,9 @@ ghost use Rattle.gr_checker.specs.Heads as spec;
 use crate::earliest::Earliest;
 use crate::meanings::Meanings;
 use crate::name_set::NameSet;
-use gr_lang::operation::Declared;
-use gr_lang::refusal::Kind;
-use gr_lang::syntax::{Item, Name, Number, Place};
+use gr_accept::Declared;
+use gr_syntax::Kind;
+use gr_syntax::{Item, Name, Number, Place};
 use std::alloc::AllocError;
 
 /// What the items so far declare. Counts stop at one more than what is allowed.

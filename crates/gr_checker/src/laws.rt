@@ -1,10 +1,10 @@
 //! Laws of refusals. The functions do nothing: what they tell is their contracts.
 ghost use Rattle.std.specs.Prelude.{◌≡◌, ◌⊎◌, true, List, []};
-ghost use Rattle.gr_lang.specs.Accepted.{faults, IsAccepted};
-ghost use Rattle.gr_lang.specs.Faults.{IsFirst};
-ghost use Rattle.gr_lang.specs.Targets.{targets_fit};
-ghost use Rattle.gr_lang.specs.declared.refusal.Fault.{Fault};
-ghost use Rattle.gr_lang.specs.declared.syntax.Program.{Program};
+ghost use Rattle.gr_accept.specs.Accepted.{faults, IsAccepted};
+ghost use Rattle.gr_syntax.specs.Faults.{IsFirst};
+ghost use Rattle.gr_syntax.specs.Targets.{targets_fit};
+ghost use Rattle.gr_syntax.specs.declared.refusal.Fault.{Fault};
+ghost use Rattle.gr_syntax.specs.declared.syntax.Program.{Program};
 
 /// A program has at most one first fault, none if it is accepted, and one if it isn't, where its assignments have as
 /// many targets as the grammar gives them. So a refusal tells exactly one kind and place, no program is both accepted

@@ -2,8 +2,8 @@
 ghost use Rattle.std.specs.Prelude.{◌≡◌, [], OnOk, is_some};
 ghost use Rattle.gr_checker.specs.Meanings.{named, with_meaning};
 
-use gr_lang::operation::Declared;
-use gr_lang::syntax::Text;
+use gr_accept::Declared;
+use gr_syntax::Text;
 use indexmap::IndexMap;
 use std::alloc::{AllocError, Global};
 use std::marker::Model;
@@ -16,7 +16,7 @@ pub struct Meanings<'a> {
 
 impl<'a> Model for Meanings<'a> {
     ghost use Rattle.std.specs.Prelude.{List, ℕ, map};
-    ghost use Rattle.gr_lang.specs.declared.operation.Declared.{Declared};
+    ghost use Rattle.gr_accept.specs.declared.operation.Declared.{Declared};
     ghost use Rattle.std.specs.Coded.{codes};
 
     ghost Value = { List (List ℕ × Declared) };

@@ -1,8 +1,8 @@
 //! Sets of names, lent from the program.
 ghost use Rattle.std.specs.Prelude.{◌≡◌, List, ℕ, [], length, not, take, OnOk, IfOk};
-ghost use Rattle.gr_lang.specs.Names.{has, with_name};
+ghost use Rattle.gr_syntax.specs.Names.{has, with_name};
 
-use gr_lang::syntax::Text;
+use gr_syntax::Text;
 use indexmap::IndexSet;
 use std::alloc::{AllocError, Global};
 use std::marker::Model;

@@ -2,11 +2,11 @@
 //! item stands in a line of its own: its name at column 1, its numbers and parameters from column 2 on, and
 //! the names of its body from column 20 on.
 use crate::check::{CheckError, check};
-use gr_lang::refusal::Kind;
-use gr_lang::syntax::{
+use gr_syntax::Kind;
+use gr_syntax::{
     Block, CallText, Expr, HowText, Item, Name, Names, Number, Place, Program, Right, Stmt, Text,
 };
-use gr_lang::targets::targets_fit;
+use gr_syntax::targets_fit;
 use sqlite_items::Items;
 use std::alloc::{AllocError, Global};
 use std::process::Abort;

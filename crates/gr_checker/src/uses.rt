@@ -1,20 +1,20 @@
 //! The pass over what the items use: `show`, `input` and the bodies of the tasks.
 ghost use Rattle.std.specs.Prelude.{◌≡◌, [], ◌∷◌, OnOk, IfOk};
-ghost use Rattle.gr_lang.specs.Conditions as condition;
+ghost use Rattle.gr_accept.specs.Conditions as condition;
 ghost use Rattle.gr_checker.specs.Earliest.{seen, least};
-ghost use Rattle.gr_lang.specs.Sites.{begins, fills};
+ghost use Rattle.gr_accept.specs.Sites.{begins, fills};
 ghost use Rattle.gr_checker.specs.Meanings.{named};
-ghost use Rattle.gr_lang.specs.Accepted.{use_sites};
-ghost use Rattle.gr_lang.specs.Walks.{body_sites};
+ghost use Rattle.gr_accept.specs.Accepted.{use_sites};
+ghost use Rattle.gr_accept.specs.Walks.{body_sites};
 
 use crate::calls::check_shown;
 use crate::earliest::Earliest;
 use crate::meanings::Meanings;
 use crate::name_set::NameSet;
 use crate::walk::{Walk, check_all, give_all};
-use gr_lang::operation::Declared;
-use gr_lang::refusal::Kind;
-use gr_lang::syntax::{Item, Name, Number, Stmt};
+use gr_accept::Declared;
+use gr_syntax::Kind;
+use gr_syntax::{Item, Name, Number, Stmt};
 use std::alloc::{AllocError, Global};
 
 #[tactic(auto, using(crate::proofs::Leasts::leasts))]
@@ -37,7 +37,7 @@ fn check_body<'a>(
     Ok(walk.found)
 }
 
-#[tactic(auto, unfolding(gr_lang::specs::Conditions::faults_at), using(crate::proofs::Leasts::leasts))]
+#[tactic(auto, unfolding(gr_accept::specs::Conditions::faults_at), using(crate::proofs::Leasts::leasts))]
 fn check_params(meanings: &Meanings, found: &mut Earliest, name: &Name, params: &[Name])
     ensures { found.new ≡ seen (named meanings.now) found.old (begins name.now params.now ∷ []) }
 {
@@ -70,7 +70,7 @@ fn check_length(found: &mut Earliest, declared: Option<Declared>, values: &[Numb
     }
 }
 
-#[tactic(auto, unfolding(gr_lang::specs::Conditions::faults_at), using(crate::proofs::Leasts::leasts))]
+#[tactic(auto, unfolding(gr_accept::specs::Conditions::faults_at), using(crate::proofs::Leasts::leasts))]
 fn check_input(meanings: &Meanings, found: &mut Earliest, name: &Name, values: &[Number])
     ensures { found.new ≡ seen (named meanings.now) found.old (fills name.now values.now ∷ []) }
 {

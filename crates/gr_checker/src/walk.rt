@@ -2,15 +2,15 @@
 ghost use Rattle.std.specs.Prelude.{◌≡◌, [], ◌∷◌, OnOk, length, take, ◌≤◌, not};
 ghost use Rattle.gr_checker.specs.Earliest.{seen};
 ghost use Rattle.gr_checker.specs.Meanings.{named};
-ghost use Rattle.gr_lang.specs.Walks as spec;
+ghost use Rattle.gr_accept.specs.Walks as spec;
 ghost use Rattle.gr_checker.specs.Walked.{after};
 
 use crate::calls::{check_call, check_expr, check_exprs, check_locals, check_start};
 use crate::earliest::Earliest;
 use crate::meanings::Meanings;
 use crate::name_set::NameSet;
-use gr_lang::refusal::Kind;
-use gr_lang::syntax::{Expr, HowText, Name, Right, Stmt};
+use gr_syntax::Kind;
+use gr_syntax::{Expr, HowText, Name, Right, Stmt};
 use std::alloc::AllocError;
 
 /// A walk through a task's text.
@@ -24,7 +24,7 @@ pub struct Walk<'a> {
     pub visible: NameSet<'a>,
 }
 
-#[tactic(auto, unfolding(gr_lang::specs::Conditions::faults_at), using(crate::proofs::Leasts::leasts))]
+#[tactic(auto, unfolding(gr_accept::specs::Conditions::faults_at), using(crate::proofs::Leasts::leasts))]
 fn give<'a>(meanings: &Meanings<'a>, walk: &mut Walk<'a>, name: &'a Name) -> Result<(), AllocError>
     ensures { OnOk result (walk.new ≡ after (named meanings.now) walk.old (spec.given name.now)) }
 {

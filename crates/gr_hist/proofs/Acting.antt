@@ -4,8 +4,8 @@ use Rattle.std.specs.Str.{bytes_eq}
 use Rattle.gr_lang.specs.declared.action.TaskId.{TaskId}
 use Rattle.gr_lang.specs.declared.action.TrapKind.{TrapKind}
 use Rattle.gr_lang.specs.declared.action.How.TheVariants as how
-use Rattle.gr_lang.specs.declared.operation.Operation.{Operation}
-use Rattle.gr_lang.specs.Operations.{operation_of}
+use Rattle.gr_accept.specs.declared.operation.Operation.{Operation}
+use Rattle.gr_accept.specs.Operations.{operation_of}
 use Rattle.gr_hist.specs.declared.text.NamedEntry.{NamedEntry}
 use Rattle.gr_hist.specs.declared.text.NamedEntry.TheVariants as entry
 use Rattle.gr_hist.specs.Names.{Bytes, is_object_name}

@@ -1,8 +1,8 @@
 -- No operation has more than three numbers or two result words.
 use Rattle.std.proofs.Common.{◌≤◌, arith}
-use Rattle.gr_lang.specs.declared.operation.Operation.{Operation}
-use Rattle.gr_lang.specs.declared.operation.Operation.TheVariants as o
-use Rattle.gr_lang.specs.Operations.{argument_count, result_count}
+use Rattle.gr_accept.specs.declared.operation.Operation.{Operation}
+use Rattle.gr_accept.specs.declared.operation.Operation.TheVariants as o
+use Rattle.gr_accept.specs.Operations.{argument_count, result_count}
 
 pub at_most_three : (op : Operation) → argument_count op ≤ 3
 at_most_three o.Read = omega arith

@@ -1,11 +1,11 @@
 -- The worked program is accepted, by computing.
 use Rattle.std.proofs.Common.{◌≡◌, rules, true, []}
-use Rattle.gr_lang.specs.declared.syntax.Stmt.{the_lemmas}
-use Rattle.gr_lang.specs.declared.syntax.Expr.{the_lemmas as expr_lemmas}
-use Rattle.gr_lang.specs.Accepted.{faults, IsAccepted}
-use Rattle.gr_lang.specs.Targets.{targets_fit, stmt_fits}
-use Rattle.gr_lang.specs.Walks.{stmt, expr_sites}
-use Rattle.gr_lang.specs.Conditions.{faults_at}
+use Rattle.gr_syntax.specs.declared.syntax.Stmt.{the_lemmas}
+use Rattle.gr_syntax.specs.declared.syntax.Expr.{the_lemmas as expr_lemmas}
+use Rattle.gr_accept.specs.Accepted.{faults, IsAccepted}
+use Rattle.gr_syntax.specs.Targets.{targets_fit, stmt_fits}
+use Rattle.gr_accept.specs.Walks.{stmt, expr_sites}
+use Rattle.gr_accept.specs.Conditions.{faults_at}
 use Rattle.gr_hist.specs.Rows.{example}
 
 example-fits : targets_fit example ≡ true

@@ -4,18 +4,18 @@ use Rattle.std.specs.Prelude.{map}
 use Rattle.std.proofs.lemmas.List.{length-map}
 use Rattle.std.proofs.lemmas.List.Elements.{All-head, All-tail, All-weaker}
 use Rattle.std.specs.Str.{bytes_eq}
-use Rattle.gr_lang.specs.declared.syntax.Program.{Program}
+use Rattle.gr_syntax.specs.declared.syntax.Program.{Program}
 use Rattle.gr_lang.specs.declared.action.Op.{Op}
 use Rattle.gr_lang.specs.declared.action.Op.TheVariants as ops
 use Rattle.gr_lang.specs.declared.action.Reply.{Reply}
 use Rattle.gr_lang.specs.declared.action.TaskId.{TaskId}
 use Rattle.gr_lang.specs.declared.action.Entry.{Entry}
 use Rattle.gr_lang.specs.declared.action.Entry.TheVariants as plain
-use Rattle.gr_lang.specs.Accepted.{IsAccepted}
+use Rattle.gr_accept.specs.Accepted.{IsAccepted}
 use Rattle.gr_lang.specs.Histories.{final, legal}
-use Rattle.gr_lang.specs.Names.{is_name}
-use Rattle.gr_lang.specs.Objects.{heap_number}
-use Rattle.gr_lang.specs.Openings.{TaskText, tasks_of}
+use Rattle.gr_syntax.specs.Names.{is_name}
+use Rattle.gr_syntax.specs.declared.limits.TheConstants.{HEAP}
+use Rattle.gr_syntax.specs.Items.{TaskText, tasks_of}
 use Rattle.gr_lang.specs.States.{State}
 use Rattle.gr_known.specs.Known.{IsKnown, IsKnownCall, IsObject, IsTask}
 use Rattle.gr_known.proofs.Steps.{histories_known}
@@ -34,7 +34,7 @@ object_name_is name h = rw h refl
 
 object_named : (p : Program) (k : ℕ) → IsNamed p → IsObject p k → is_object_name (object_name (names_of p) k) ≡ true
 object_named p k h (inl e) = subst (λ n. is_object_name (object_name (names_of p) n) ≡ true) (sym e) refl
-object_named p k h (inr less) = by (k == heap_number)
+object_named p k h (inr less) = by (k == HEAP)
   where
     by : (b : Bool) → is_object_name (if b then codes "heap" else name_at (names_of p).objects k) ≡ true
     by true = refl

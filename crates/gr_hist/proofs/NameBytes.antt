@@ -8,8 +8,8 @@ use Rattle.std.proofs.lemmas.Slice.Eq.{bytes_eq-Decides}
 use Rattle.std.proofs.lemmas.List.Elements.{All-nil, All-cons}
 use Rattle.std.proofs.lemmas.Str.{IsUtf8-from_ascii}
 use Rattle.std.proofs.lemmas.Str.Ascii.{IsAscii-from_all}
-use Rattle.gr_lang.specs.Names.{has}
-use Rattle.gr_lang.specs.Names.{is_letter, is_word, is_spelled, is_name, keywords}
+use Rattle.gr_syntax.specs.Names.{has}
+use Rattle.gr_syntax.specs.Names.{is_letter, is_word, is_spelled, is_name, keywords}
 use Rattle.gr_hist.specs.Names.{Bytes, is_object_name}
 use Rattle.gr_hist.proofs.Cutting.{Over}
 use Rattle.gr_hist.proofs.Numerals.{both}

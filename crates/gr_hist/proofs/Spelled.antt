@@ -3,9 +3,9 @@ use Rattle.std.proofs.Common.{◌≡◌, ◌∙◌, refl, sym, ap, subst, Bool, 
 use Rattle.std.specs.Prelude.{◌&&◌, ◌||◌}
 use Rattle.std.specs.List.{list_any}
 use Rattle.std.specs.Str.{bytes_eq}
-use Rattle.gr_lang.specs.Names.{has}
+use Rattle.gr_syntax.specs.Names.{has}
 use Rattle.gr_hist.specs.declared.text.NamedEntry.{NamedEntry}
-use Rattle.gr_lang.specs.Names.{is_name, is_spelled, keywords}
+use Rattle.gr_syntax.specs.Names.{is_name, is_spelled, keywords}
 use Rattle.gr_hist.specs.Names.{Bytes, is_object_name}
 use Rattle.gr_hist.specs.Grammar.{IsEntry}
 use Rattle.gr_hist.specs.Reading.{name_of, object_name_of}

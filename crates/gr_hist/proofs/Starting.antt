@@ -7,7 +7,7 @@ use Rattle.gr_lang.specs.declared.action.How.{How}
 use Rattle.gr_lang.specs.declared.action.How.TheVariants as how
 use Rattle.gr_hist.specs.declared.text.NamedEntry.{NamedEntry}
 use Rattle.gr_hist.specs.declared.text.NamedEntry.TheVariants as entry
-use Rattle.gr_lang.specs.Names.{is_name}
+use Rattle.gr_syntax.specs.Names.{is_name}
 use Rattle.gr_hist.specs.Names.{Bytes}
 use Rattle.gr_hist.specs.Grammar.{IsEntry, IsHow, IsId, IsWord}
 use Rattle.gr_hist.specs.Reading.{args_of, loop_of, loop_over, loop_with, name_of, number_of, numbers_of, offer_of, spawn_of, start_at, start_of}

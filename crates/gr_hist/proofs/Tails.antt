@@ -6,8 +6,8 @@ use Rattle.std.proofs.lemmas.List.{length-map, length-append}
 use Rattle.std.proofs.lemmas.List.Elements.{All-nil, All-cons, All-head, All-tail}
 use Rattle.std.specs.Str.{bytes_eq}
 use Rattle.gr_lang.specs.declared.action.TaskId.{TaskId}
-use Rattle.gr_lang.specs.declared.operation.Operation.{Operation}
-use Rattle.gr_lang.specs.Operations.{argument_count, result_count}
+use Rattle.gr_accept.specs.declared.operation.Operation.{Operation}
+use Rattle.gr_accept.specs.Operations.{argument_count, result_count}
 use Rattle.gr_hist.specs.Names.{Bytes}
 use Rattle.gr_hist.specs.Grammar.{IsId, IsWord}
 use Rattle.gr_hist.specs.Reading.{args_of, args_with, child_of, counted_of, cut_at, id_of, id_of_halves, number_of, numbers_of, onto, reply_of, tail_of}

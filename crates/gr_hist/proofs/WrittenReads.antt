@@ -7,7 +7,7 @@ use Rattle.gr_lang.specs.declared.action.Reply.{Reply}
 use Rattle.gr_lang.specs.declared.action.TaskId.{TaskId}
 use Rattle.gr_lang.specs.declared.action.Entry.{Entry}
 use Rattle.gr_lang.specs.declared.action.Entry.TheVariants as plain
-use Rattle.gr_lang.specs.declared.syntax.Program.{Program}
+use Rattle.gr_syntax.specs.declared.syntax.Program.{Program}
 use Rattle.gr_hist.specs.Names.{Bytes}
 use Rattle.gr_hist.specs.Grammar.{HasNames, HasShape, IsEntry, IsHeader, ReadsLines, ReadsText}
 use Rattle.gr_hist.specs.Naming.{IsNamable, NameTable, history_text, lines_of, named, named_by, named_call, names_of}

@@ -3,13 +3,13 @@ use Rattle.std.specs.Prelude.{◌≡◌, ◌≢◌, ℕ, ◌+◌, ◌<◌, ◌�
 use Rattle.gr_lang.specs.declared.action.TaskId.{TaskId}
 use Rattle.gr_lang.specs.declared.action.How.{How}
 use Rattle.gr_lang.specs.declared.action.How.TheVariants as how
-use Rattle.gr_lang.specs.Operations.{argument_count, result_count, takes_reducer}
+use Rattle.gr_accept.specs.Operations.{argument_count, result_count, takes_reducer}
 use Rattle.gr_hist.specs.declared.text.NamedEntry.{NamedEntry}
 use Rattle.gr_hist.specs.declared.text.NamedEntry.TheVariants as entry
 use Rattle.gr_hist.specs.declared.text.HistoryText.{HistoryText}
 use Rattle.gr_hist.specs.declared.text.HistError.{HistError}
 use Rattle.gr_hist.specs.declared.text.HistError.TheVariants as error
-use Rattle.gr_lang.specs.Names.{is_name}
+use Rattle.gr_syntax.specs.Names.{is_name}
 use Rattle.gr_hist.specs.Names.{Bytes, is_object_name}
 use Rattle.gr_hist.specs.Spelling.{parts_of, header_parts, line_of}
 

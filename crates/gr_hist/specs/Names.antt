@@ -1,7 +1,7 @@
 -- What calls name an object by in a history text.
 use Rattle.std.specs.Prelude.{ℕ, Bool, ◌||◌, List, codes}
 use Rattle.std.specs.Str.{bytes_eq}
-use Rattle.gr_lang.specs.Names.{is_name}
+use Rattle.gr_syntax.specs.Names.{is_name}
 
 -- A text, as its bytes.
 abbrev pub Bytes : Type 0

@@ -6,13 +6,13 @@ use Rattle.gr_lang.specs.declared.action.Op.TheVariants as ops
 use Rattle.gr_lang.specs.declared.action.Reply.{Reply}
 use Rattle.gr_lang.specs.declared.action.Entry.{Entry}
 use Rattle.gr_lang.specs.declared.action.Entry.TheVariants as plain
-use Rattle.gr_lang.specs.declared.operation.Operation.{Operation}
-use Rattle.gr_lang.specs.declared.operation.Operation.TheVariants as o
-use Rattle.gr_lang.specs.declared.syntax.Program.{Program}
-use Rattle.gr_lang.specs.Names.{is_name}
-use Rattle.gr_lang.specs.Objects.{heap_number}
-use Rattle.gr_lang.specs.Openings.{object_names, tasks_of}
-use Rattle.gr_lang.specs.Operations.{result_count}
+use Rattle.gr_accept.specs.declared.operation.Operation.{Operation}
+use Rattle.gr_accept.specs.declared.operation.Operation.TheVariants as o
+use Rattle.gr_syntax.specs.declared.syntax.Program.{Program}
+use Rattle.gr_syntax.specs.Names.{is_name}
+use Rattle.gr_syntax.specs.declared.limits.TheConstants.{HEAP}
+use Rattle.gr_syntax.specs.Items.{object_names, tasks_of}
+use Rattle.gr_accept.specs.Operations.{result_count}
 use Rattle.gr_hist.specs.declared.text.NamedEntry.{NamedEntry}
 use Rattle.gr_hist.specs.declared.text.NamedEntry.TheVariants as entry
 use Rattle.gr_hist.specs.Names.{Bytes}
@@ -34,7 +34,7 @@ name_at names k = unwrap_or (slice_get names k) []
 
 -- The name of an object. The heap has a number of its own.
 abbrev pub object_name : NameTable → ℕ → Bytes
-object_name names k = if k == heap_number then codes "heap" else name_at names.objects k
+object_name names k = if k == HEAP then codes "heap" else name_at names.objects k
 
 -- The result words that an operation gives.
 abbrev pub reply_words : Operation → Reply → List ℕ
@@ -61,8 +61,8 @@ named_call names task (ops.Merge object reducer key word) reply = call_on names 
 named_call names task (ops.Push object word) reply = call_on names task object o.Push None (word ∷ []) reply
 named_call names task (ops.Pop object) reply = call_on names task object o.Pop None [] reply
 named_call names task (ops.Dequeue object) reply = call_on names task object o.Dequeue None [] reply
-named_call names task (ops.Alloc count) reply = call_on names task heap_number o.Alloc None (count ∷ []) reply
-named_call names task (ops.Free place) reply = call_on names task heap_number o.Free None (place ∷ []) reply
+named_call names task (ops.Alloc count) reply = call_on names task HEAP o.Alloc None (count ∷ []) reply
+named_call names task (ops.Free place) reply = call_on names task HEAP o.Free None (place ∷ []) reply
 named_call names task (ops.Print word) reply = entry.Print task word
 
 -- An entry with the names of this table.

@@ -3,18 +3,18 @@ use Rattle.std.specs.Prelude.{ℕ, ◌+◌, ◌-◌, ◌*◌, ◌^◌, ◌≡◌
 use Rattle.std.specs.Char.{is_ascii_digit}
 use Rattle.std.specs.Str.{bytes_eq}
 use Rattle.std.specs.List.{slice_split}
-use Rattle.gr_lang.specs.Operations.{operation_of, reducer_of, argument_count, result_count, takes_reducer}
+use Rattle.gr_accept.specs.Operations.{operation_of, reducer_of, argument_count, result_count, takes_reducer}
 use Rattle.gr_lang.specs.declared.action.TaskId.{TaskId}
 use Rattle.gr_lang.specs.declared.action.How.{How}
 use Rattle.gr_lang.specs.declared.action.How.TheVariants as how
 use Rattle.gr_lang.specs.declared.action.TrapKind.{TrapKind}
 use Rattle.gr_lang.specs.declared.action.TrapKind.TheVariants as trap
-use Rattle.gr_lang.specs.declared.operation.Operation.{Operation}
+use Rattle.gr_accept.specs.declared.operation.Operation.{Operation}
 use Rattle.gr_hist.specs.declared.text.NamedEntry.{NamedEntry}
 use Rattle.gr_hist.specs.declared.text.NamedEntry.TheVariants as entry
 use Rattle.gr_hist.specs.declared.fields.LineError.{LineError}
 use Rattle.gr_hist.specs.declared.fields.LineError.TheVariants as error
-use Rattle.gr_lang.specs.Names.{is_name}
+use Rattle.gr_syntax.specs.Names.{is_name}
 use Rattle.gr_hist.specs.Names.{Bytes, is_object_name}
 
 -- The answer is this value, or `Bad` where there is none. Want of memory says nothing of it.

@@ -1,8 +1,8 @@
 -- A worked program with an object of each kind, whose history is written in a test.
 use Rattle.std.specs.Prelude.{[], ◌∷◌, codes}
-use Rattle.gr_lang.specs.declared.syntax.Item.TheVariants as i
-use Rattle.gr_lang.specs.declared.syntax.Program.{Program}
-use Rattle.gr_lang.specs.AcceptedRows.{at, name, number}
+use Rattle.gr_syntax.specs.declared.syntax.Item.TheVariants as i
+use Rattle.gr_syntax.specs.declared.syntax.Program.{Program}
+use Rattle.gr_accept.specs.AcceptedRows.{at, name, number}
 
 -- array a[1]; set s; map m; vector v; task t(i) { } task main() { }
 abbrev pub example : Program

@@ -3,7 +3,7 @@ use Rattle.std.specs.Prelude.{List, [], ◌∷◌, ◌++◌, take}
 use Rattle.gr_lang.specs.declared.action.TaskId.{TaskId}
 use Rattle.gr_lang.specs.declared.action.Entry.{Entry}
 use Rattle.gr_lang.specs.declared.action.Reply.{Reply}
-use Rattle.gr_lang.specs.Operations.{argument_count}
+use Rattle.gr_accept.specs.Operations.{argument_count}
 use Rattle.gr_hist.specs.declared.shapes.Shape.{Shape}
 use Rattle.gr_hist.specs.declared.shapes.Shape.TheVariants as shape
 use Rattle.gr_hist.specs.declared.text.NamedEntry.{NamedEntry}

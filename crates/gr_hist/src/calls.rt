@@ -6,10 +6,10 @@ use crate::fields::{LineError, counted, is_text};
 use crate::names::object_name;
 use crate::text::NamedEntry;
 use crate::words::reducer_named;
-use gr_lang::action::TaskId;
-use gr_lang::lists::Words;
-use gr_lang::operation::Operation;
-use gr_lang::syntax::Text;
+use gr_lang::TaskId;
+use gr_lang::Words;
+use gr_accept::Operation;
+use gr_syntax::Text;
 use std::alloc::Global;
 
 /// So many result words, behind `=` if there are any.

@@ -7,8 +7,8 @@ use crate::fields::{LineError, child, id, is_text, number};
 use crate::starts::{forall, offer, spawn};
 use crate::text::NamedEntry;
 use crate::words::{operation_named, trap_named};
-use gr_lang::action::TaskId;
-use gr_lang::operation::Operation;
+use gr_lang::TaskId;
+use gr_accept::Operation;
 use std::alloc::Global;
 
 /// The whole line `over`.

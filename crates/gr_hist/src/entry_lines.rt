@@ -9,8 +9,8 @@ use crate::putting::{
     put_text, put_word,
 };
 use crate::words::operation_word;
-use gr_lang::action::{How, TaskId, TrapKind};
-use gr_lang::operation::Operation;
+use gr_lang::{How, TaskId, TrapKind};
+use gr_accept::Operation;
 use std::alloc::AllocError;
 
 /// Adds the line of a task and a word.

@@ -4,8 +4,8 @@ ghost use Rattle.std.specs.List.{prefix_len};
 ghost use Rattle.std.specs.Str.{bytes_eq};
 ghost use Rattle.gr_hist.specs.Reading.{Gives, child_of, counted_of, cut_at, digit_after, digits_after, id_of, leads, number_of, numbers_of, parts_in};
 
-use gr_lang::action::TaskId;
-use gr_lang::lists::Words;
+use gr_lang::TaskId;
+use gr_lang::Words;
 use std::alloc::{AllocError, Global};
 
 /// Why fields aren't read.

@@ -4,7 +4,7 @@ ghost use Rattle.gr_hist.specs.Lines.{header_of, limits_of, sizes_of};
 ghost use Rattle.gr_hist.specs.Reading.{Gives};
 
 use crate::fields::{LineError, is_text, number};
-use gr_lang::action::MAX_CORES;
+use gr_syntax::MAX_CORES;
 
 /// The greatest limit of steps: 2^40.
 const MAX_STEPS: u64 = 1 << 40;

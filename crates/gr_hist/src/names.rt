@@ -2,12 +2,12 @@
 ghost use Rattle.std.specs.Prelude.{◌≡◌, IfOk, MatchResult, Some};
 ghost use Rattle.std.specs.List.{list_all};
 ghost use Rattle.std.specs.Str.{IsUtf8};
-ghost use Rattle.gr_lang.specs.Names.{has, is_letter, is_name, is_spelled, is_word, keywords};
+ghost use Rattle.gr_syntax.specs.Names.{has, is_letter, is_name, is_spelled, is_word, keywords};
 ghost use Rattle.gr_hist.specs.Names.{is_object_name};
 ghost use Rattle.gr_hist.specs.Reading.{Gives, name_of, object_name_of};
 
 use crate::fields::{LineError, is_text};
-use gr_lang::syntax::Text;
+use gr_syntax::Text;
 use std::alloc::{AllocError, Global};
 
 /// The most bytes of a name.

@@ -5,7 +5,7 @@ ghost use Rattle.gr_hist.specs.Spelling.{child_part, how_part, id_bytes, range_p
 ghost use Rattle.gr_hist.specs.Written.{trail};
 
 use crate::words::reducer_word;
-use gr_lang::action::{How, TaskId};
+use gr_lang::{How, TaskId};
 use itoa::Buffer;
 use std::alloc::AllocError;
 

@@ -6,8 +6,8 @@ ghost use Rattle.gr_hist.specs.Naming.{NameTable, named_call};
 ghost use Rattle.gr_hist.specs.Written.{named_shape};
 ghost use Rattle.gr_hist.specs.declared.shapes.Shape.TheVariants as shape;
 
-use gr_lang::action::Op;
-use gr_lang::operation::{HEAP, Operation};
+use gr_lang::Op;
+use gr_accept::Operation;
 
 /// A call taken apart, or a print.
 #[derive(Clone, Copy)]

@@ -5,8 +5,8 @@ ghost use Rattle.gr_hist.specs.Reading.{Gives, args_of, args_with, loop_of, loop
 use crate::fields::{LineError, child, is_text, number, numbers};
 use crate::names::name;
 use crate::text::NamedEntry;
-use gr_lang::action::{How, TaskId};
-use gr_lang::lists::Words;
+use gr_lang::{How, TaskId};
+use gr_lang::Words;
 use std::alloc::Global;
 
 /// The arguments, and the new task.

@@ -1,10 +1,10 @@
 //! The names of a program's objects and tasks, in tables made once.
 ghost use Rattle.std.specs.Prelude.{◌≡◌, IfOk, map};
-ghost use Rattle.gr_lang.specs.Openings.{object_names, tasks_of};
+ghost use Rattle.gr_syntax.specs.Items.{object_names, tasks_of};
 ghost use Rattle.gr_hist.specs.Naming.{name_at, names_of, object_name};
 
-use gr_lang::operation::HEAP;
-use gr_lang::syntax::{Item, Program, Text};
+use gr_syntax::HEAP;
+use gr_syntax::{Item, Program, Text};
 use std::alloc::{AllocError, Global};
 use std::marker::Model;
 

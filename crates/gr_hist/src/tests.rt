@@ -1,16 +1,16 @@
 //! What the clauses leave to examples: that the calls answer, and texts worked out by hand.
 ghost use Rattle.std.specs.Prelude.{◌≡◌, [], IfOk};
-ghost use Rattle.gr_lang.specs.AcceptedRows.{at, name as named_at};
-ghost use Rattle.gr_lang.specs.declared.syntax.Item.TheVariants as items;
+ghost use Rattle.gr_accept.specs.AcceptedRows.{at, name as named_at};
+ghost use Rattle.gr_syntax.specs.declared.syntax.Item.TheVariants as items;
 ghost use Rattle.gr_hist.specs.Rows.{example};
 
 use crate::reading::read;
 use crate::text::HistError;
 use crate::writing::write;
-use gr_lang::accepted::Accepted;
-use gr_lang::action::{Entry, How, Op, Reply, TaskId, TrapKind};
-use gr_lang::lists::{History, Words};
-use gr_lang::syntax::{Item, Name, Number, Place, Program, Text};
+use gr_accept::Accepted;
+use gr_lang::{Entry, How, Op, Reply, TaskId, TrapKind};
+use gr_lang::{History, Words};
+use gr_syntax::{Item, Name, Number, Place, Program, Text};
 use sqlite_items::Items;
 use std::alloc::{AllocError, Global};
 use std::test::Fail;

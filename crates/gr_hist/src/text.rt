@@ -1,10 +1,10 @@
 //! What a history text says: its header and its entries, in which objects and tasks have their names.
 ghost use Rattle.std.specs.Prelude.{◌≡◌, [], ◌∷◌, ◌++◌, OnOk, OnErr};
 
-use gr_lang::action::{How, TaskId, TrapKind};
-use gr_lang::lists::Words;
-use gr_lang::operation::Operation;
-use gr_lang::syntax::Text;
+use gr_lang::{How, TaskId, TrapKind};
+use gr_lang::Words;
+use gr_accept::Operation;
+use gr_syntax::Text;
 use std::alloc::{AllocError, Global};
 use std::marker::Model;
 use thiserror::Error;

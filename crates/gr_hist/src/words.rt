@@ -1,12 +1,12 @@
 //! The words of operations, reducers and traps.
 ghost use Rattle.std.specs.Prelude.{◌≡◌, ◌<◌, Some, MatchResult};
-ghost use Rattle.gr_lang.specs.Operations.{operation_of, reducer_of};
+ghost use Rattle.gr_accept.specs.Operations.{operation_of, reducer_of};
 ghost use Rattle.gr_hist.specs.Reading.{Gives, first_with, trap_of};
 ghost use Rattle.gr_hist.specs.Spelling.{operation_word, reducer_word};
 
 use crate::fields::{LineError, is_text};
-use gr_lang::action::TrapKind;
-use gr_lang::operation::Operation;
+use gr_lang::TrapKind;
+use gr_accept::Operation;
 
 /// The operations of all kinds of objects.
 const OPERATIONS: [Operation; 17] = [

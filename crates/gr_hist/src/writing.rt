@@ -10,9 +10,9 @@ use crate::entry_lines::{put_begin, put_call, put_loop, put_mark, put_print, put
 use crate::putting::{put_number, put_text};
 use crate::shapes::{Shape, shape_of};
 use crate::tables::Tables;
-use gr_lang::accepted::Accepted;
-use gr_lang::action::{Entry, Op, Reply, TaskId};
-use gr_lang::lists::History;
+use gr_accept::Accepted;
+use gr_lang::{Entry, Op, Reply, TaskId};
+use gr_lang::History;
 use std::alloc::{AllocError, Global};
 
 /// Adds the line of a call that is taken apart, or of a print.

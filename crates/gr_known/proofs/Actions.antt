@@ -4,12 +4,12 @@ use Rattle.std.specs.Prelude.{codes, position}
 use Rattle.std.specs.Option.{option_map_or}
 use Rattle.std.proofs.lemmas.List.Quantifiers.{position-Some}
 use Rattle.std.proofs.lemmas.Slice.Eq.{bytes_eq-Decides}
-use Rattle.gr_lang.specs.declared.syntax.Expr.{Expr}
-use Rattle.gr_lang.specs.declared.syntax.Name.{Name}
-use Rattle.gr_lang.specs.declared.syntax.CallText.{CallText}
-use Rattle.gr_lang.specs.declared.syntax.Program.{Program}
-use Rattle.gr_lang.specs.declared.operation.Operation.{Operation}
-use Rattle.gr_lang.specs.declared.operation.Operation.TheVariants as n
+use Rattle.gr_syntax.specs.declared.syntax.Expr.{Expr}
+use Rattle.gr_syntax.specs.declared.syntax.Name.{Name}
+use Rattle.gr_syntax.specs.declared.syntax.CallText.{CallText}
+use Rattle.gr_syntax.specs.declared.syntax.Program.{Program}
+use Rattle.gr_accept.specs.declared.operation.Operation.{Operation}
+use Rattle.gr_accept.specs.declared.operation.Operation.TheVariants as n
 use Rattle.gr_lang.specs.declared.action.How.{How}
 use Rattle.gr_lang.specs.declared.action.Op.{Op}
 use Rattle.gr_lang.specs.declared.action.Op.TheVariants as o
@@ -18,10 +18,13 @@ use Rattle.gr_lang.specs.declared.action.Action.TheVariants as a
 use Rattle.gr_lang.specs.declared.action.TrapKind.TheVariants as trap
 use Rattle.gr_lang.specs.Locals.{Locals}
 use Rattle.gr_lang.specs.Expressions.{values}
-use Rattle.gr_lang.specs.Fields.{fields_of, same_op}
-use Rattle.gr_lang.specs.Operations.{operation_of, reducer_of}
-use Rattle.gr_lang.specs.Openings.{TaskText, tasks_of, object_of, target_of}
-use Rattle.gr_lang.specs.Next.{acted, named_action, op_of, call_action, reducer_number, spawn_action, loop_action}
+use Rattle.gr_lang.specs.Fields.{fields_of}
+use Rattle.gr_lang.specs.Parts.{same_op}
+use Rattle.gr_accept.specs.Operations.{operation_of, reducer_of}
+use Rattle.gr_syntax.specs.Items.{TaskText, tasks_of}
+use Rattle.gr_lang.specs.Openings.{object_of, target_of}
+use Rattle.gr_lang.specs.Next.{acted, named_action, call_action, reducer_number, spawn_action, loop_action}
+use Rattle.gr_lang.specs.Parts.{op_of}
 use Rattle.gr_known.specs.Known.{IsObject, IsReducer, IsTask, IsKnownCall}
 use Rattle.gr_known.proofs.Bodies.{IsSound}
 

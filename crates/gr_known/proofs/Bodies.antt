@@ -2,29 +2,30 @@
 use Rattle.std.proofs.Common.{◌≡◌, ℕ, zero, suc, ◌+◌, ◌<◌, Bool, true, false, not, ◌||◌, List, [], ◌∷◌, ◌++◌, length, map, slice_get, Option, Some, None, is_none, flat_map, inl, inr, ◌⊎◌, if◌then◌else◌, refl, sym, ap, ◌∙◌, subst, arith, codes}
 use Rattle.std.specs.Str.{bytes_eq}
 use Rattle.std.proofs.lemmas.Grind.{flat_map-append}
-use Rattle.gr_lang.specs.declared.syntax.Item.{Item}
-use Rattle.gr_lang.specs.declared.syntax.Item.TheVariants as i
-use Rattle.gr_lang.specs.declared.syntax.Name.{Name}
-use Rattle.gr_lang.specs.declared.syntax.Place.{Place}
-use Rattle.gr_lang.specs.declared.syntax.Program.{Program}
-use Rattle.gr_lang.specs.declared.syntax.CallText.{CallText}
-use Rattle.gr_lang.specs.declared.syntax.Right.{Right}
-use Rattle.gr_lang.specs.declared.syntax.Right.TheVariants as r
-use Rattle.gr_lang.specs.declared.syntax.Stmt.{Stmt, fold-Stmt, out-Stmt, roll-Stmt, roll-out-Stmt}
-use Rattle.gr_lang.specs.declared.syntax.Stmt.TheFolds.{fold-roll-Stmt}
-use Rattle.gr_lang.specs.declared.syntax.Stmt.TheOpen.{Stmt-F}
-use Rattle.gr_lang.specs.declared.operation.Declared.{Declared}
-use Rattle.gr_lang.specs.declared.operation.Declared.TheVariants as d
-use Rattle.gr_lang.specs.declared.refusal.Kind.{Kind}
-use Rattle.gr_lang.specs.Accepted.{IsAccepted, heads_sites, uses_sites}
-use Rattle.gr_lang.specs.Conditions.{faults_at, has_main, is_task}
-use Rattle.gr_lang.specs.Declarations.{Meaning, first_named}
-use Rattle.gr_lang.specs.Faults.{when}
-use Rattle.gr_lang.specs.Names.{has}
-use Rattle.gr_lang.specs.Objects.{heap_number}
-use Rattle.gr_lang.specs.Openings.{TaskText, tasks_of, object_names, object_of, place_of}
-use Rattle.gr_lang.specs.Sites.{Site, fills, shows, calls, begins, ends}
-use Rattle.gr_lang.specs.Walks.{Part, LexicalScope, all, stmt, stmts, stmt_step, givens, call_sites, right_sites, expr_sites, body_sites}
+use Rattle.gr_syntax.specs.declared.syntax.Item.{Item}
+use Rattle.gr_syntax.specs.declared.syntax.Item.TheVariants as i
+use Rattle.gr_syntax.specs.declared.syntax.Name.{Name}
+use Rattle.gr_syntax.specs.declared.syntax.Place.{Place}
+use Rattle.gr_syntax.specs.declared.syntax.Program.{Program}
+use Rattle.gr_syntax.specs.declared.syntax.CallText.{CallText}
+use Rattle.gr_syntax.specs.declared.syntax.Right.{Right}
+use Rattle.gr_syntax.specs.declared.syntax.Right.TheVariants as r
+use Rattle.gr_syntax.specs.declared.syntax.Stmt.{Stmt, fold-Stmt, out-Stmt, roll-Stmt, roll-out-Stmt}
+use Rattle.gr_syntax.specs.declared.syntax.Stmt.TheFolds.{fold-roll-Stmt}
+use Rattle.gr_syntax.specs.declared.syntax.Stmt.TheOpen.{Stmt-F}
+use Rattle.gr_accept.specs.declared.operation.Declared.{Declared}
+use Rattle.gr_accept.specs.declared.operation.Declared.TheVariants as d
+use Rattle.gr_syntax.specs.declared.refusal.Kind.{Kind}
+use Rattle.gr_accept.specs.Accepted.{IsAccepted, heads_sites, uses_sites}
+use Rattle.gr_accept.specs.Conditions.{faults_at, has_main, is_task}
+use Rattle.gr_accept.specs.Declarations.{Meaning, first_named}
+use Rattle.gr_syntax.specs.Faults.{when}
+use Rattle.gr_syntax.specs.Names.{has}
+use Rattle.gr_syntax.specs.declared.limits.TheConstants.{HEAP}
+use Rattle.gr_syntax.specs.Items.{TaskText, tasks_of, object_names}
+use Rattle.gr_lang.specs.Openings.{object_of, place_of}
+use Rattle.gr_accept.specs.Sites.{Site, fills, shows, calls, begins, ends}
+use Rattle.gr_accept.specs.Walks.{Part, LexicalScope, all, stmt, stmts, stmt_step, givens, call_sites, right_sites, expr_sites, body_sites}
 use Rattle.gr_known.specs.Known.{IsObject}
 
 -- No fault is at any of these sites.
@@ -114,7 +115,7 @@ place_in (n ∷ ns) name h = by (place_in ns name) (bytes_eq name n) h
 object_in : (p : Program) (name : List ℕ) → (bytes_eq name (codes "heap") ≡ true) ⊎ (has (object_names p.items) name ≡ true) → IsObject p (object_of p name)
 object_in p name h = by (bytes_eq name (codes "heap")) h
   where
-    by : (t : Bool) → (t ≡ true) ⊎ (has (object_names p.items) name ≡ true) → IsObject p (if t then heap_number else place_of (object_names p.items) name)
+    by : (t : Bool) → (t ≡ true) ⊎ (has (object_names p.items) name ≡ true) → IsObject p (if t then HEAP else place_of (object_names p.items) name)
     by true k = inl refl
     by false (inl e) = cc
     by false (inr e) = inr (place_in (object_names p.items) name e)

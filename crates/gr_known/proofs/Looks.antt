@@ -1,15 +1,15 @@
 -- A task of an accepted program stands at an action that names what the program has, and what it has still to do has no fault.
 use Rattle.std.proofs.Common.{◌≡◌, ℕ, zero, suc, ◌==◌, Bool, true, false, List, [], ◌∷◌, ◌++◌, slice_get, Option, Some, None, if◌then◌else◌, refl, sym, subst}
 use Rattle.std.specs.Option.{option_map}
-use Rattle.gr_lang.specs.declared.syntax.Stmt.{Stmt, out-Stmt}
-use Rattle.gr_lang.specs.declared.syntax.Stmt.TheOpen.{Stmt-F}
-use Rattle.gr_lang.specs.declared.syntax.Name.{Name}
-use Rattle.gr_lang.specs.declared.syntax.Right.{Right}
-use Rattle.gr_lang.specs.declared.syntax.Right.TheVariants as r
-use Rattle.gr_lang.specs.declared.syntax.Program.{Program}
+use Rattle.gr_syntax.specs.declared.syntax.Stmt.{Stmt, out-Stmt}
+use Rattle.gr_syntax.specs.declared.syntax.Stmt.TheOpen.{Stmt-F}
+use Rattle.gr_syntax.specs.declared.syntax.Name.{Name}
+use Rattle.gr_syntax.specs.declared.syntax.Right.{Right}
+use Rattle.gr_syntax.specs.declared.syntax.Right.TheVariants as r
+use Rattle.gr_syntax.specs.declared.syntax.Program.{Program}
 use Rattle.gr_lang.specs.declared.action.Reply.{Reply}
 use Rattle.gr_lang.specs.Expressions.{value, values}
-use Rattle.gr_lang.specs.Openings.{TaskText, tasks_of}
+use Rattle.gr_syntax.specs.Items.{TaskText, tasks_of}
 use Rattle.gr_lang.specs.Next.{Todo, Running, run, arrive, runs, Look, pure, acts, look, look_at, look_set, look_todo, next, at_limit, after_look, Stands, go_on, go_on_todo, go_on_at, set_all, how_of, loop_action, start, start_at}
 use Rattle.gr_known.proofs.Bodies.{IsSeen, AreSeen, Inside, IsRight, IsSound, inside}
 use Rattle.gr_known.proofs.Actions.{IsKnownAction, acted_known, call_known, print_known, spawn_known, loop_known}

@@ -4,7 +4,7 @@ use Rattle.std.specs.Prelude.{if◌then◌else◌, codes, not, nat_le, nat_lt, s
 use Rattle.std.specs.FinMap.{FinMap, get, insert, empty}
 use Rattle.std.specs.FinSet as set
 use Rattle.std.proofs.lemmas.List.Elements.{All-nil, All-cons}
-use Rattle.gr_lang.specs.declared.syntax.Program.{Program}
+use Rattle.gr_syntax.specs.declared.syntax.Program.{Program}
 use Rattle.gr_lang.specs.declared.action.Action.{Action}
 use Rattle.gr_lang.specs.declared.action.Action.TheVariants as a
 use Rattle.gr_lang.specs.declared.action.Entry.{Entry}
@@ -15,10 +15,12 @@ use Rattle.gr_lang.specs.declared.action.Reply.{Reply}
 use Rattle.gr_lang.specs.declared.action.TaskId.{TaskId}
 use Rattle.gr_lang.specs.declared.action.TrapKind.{TrapKind}
 use Rattle.gr_lang.specs.declared.action.TrapKind.TheVariants as trap
-use Rattle.gr_lang.specs.Fields.{same_how, same_op, same_reply, same_trap}
+use Rattle.gr_lang.specs.Fields.{same_how, same_reply, same_trap}
+use Rattle.gr_lang.specs.Parts.{same_op}
 use Rattle.gr_lang.specs.Histories.{after}
 use Rattle.gr_lang.specs.Next.{go_on, next, start}
-use Rattle.gr_lang.specs.Objects.{nothing, call}
+use Rattle.gr_lang.specs.Objects.{call}
+use Rattle.gr_lang.specs.Effects.{nothing}
 use Rattle.gr_lang.specs.Openings.{target_of}
 use Rattle.gr_lang.specs.States.{Mode, is_going, is_at_loop, going, at_loop, ended, trapped, Task, Range, Scope, State, id_cmp, innermost, child, main_id, opening_state, left}
 use Rattle.gr_lang.specs.Steps.{step, of_task, if_going, set_task, goes_on, open_scope, called, call_step, spawn_step, finish_step, loop_step, begin_in, begin_at, begin_step, pass_from, arrive_step, pass_step, end_step, trap_step, over_step, has_core, is_new}

@@ -1,19 +1,19 @@
 -- What the entries of a legal history name: objects, reducers and tasks that the program has.
 use Rattle.std.specs.Prelude.{◌≡◌, ℕ, ◌<◌, ◌⊎◌, All, List, length, Some}
-use Rattle.gr_lang.specs.declared.syntax.Program.{Program}
+use Rattle.gr_syntax.specs.declared.syntax.Program.{Program}
 use Rattle.gr_lang.specs.declared.action.Op.{Op}
 use Rattle.gr_lang.specs.declared.action.Op.TheVariants as op
 use Rattle.gr_lang.specs.declared.action.Entry.{Entry}
 use Rattle.gr_lang.specs.declared.action.Entry.TheVariants as e
-use Rattle.gr_lang.specs.Accepted.{IsAccepted}
-use Rattle.gr_lang.specs.Objects.{heap_number}
-use Rattle.gr_lang.specs.Openings.{object_names, tasks_of}
+use Rattle.gr_accept.specs.Accepted.{IsAccepted}
+use Rattle.gr_syntax.specs.declared.limits.TheConstants.{HEAP}
+use Rattle.gr_syntax.specs.Items.{object_names, tasks_of}
 use Rattle.gr_lang.specs.States.{State}
 use Rattle.gr_lang.specs.Histories.{final}
 
 -- The number of the heap, or of one of the program's other objects.
 abbrev pub IsObject : Program → ℕ → Type 0
-IsObject p k = (k ≡ heap_number) ⊎ (k < length (object_names p.items))
+IsObject p k = (k ≡ HEAP) ⊎ (k < length (object_names p.items))
 
 -- The number of one of the eight reducers.
 abbrev pub IsReducer : ℕ → Type 0

@@ -1,6 +1,6 @@
 pub mod TaskIds
 pub mod Nexts
 pub mod Opens
-pub mod AcceptedRows
 pub mod StepRows
-pub mod Fits
+pub mod Operations
+pub mod Reducers

@@ -1,13 +1,13 @@
 -- One level of each statement.
 use Rattle.std.proofs.Common.{◌≡◌, List, Bool}
-use Rattle.gr_lang.specs.declared.syntax.Stmt.{Stmt, out-Stmt, the_lemmas}
-use Rattle.gr_lang.specs.declared.syntax.Stmt.TheOpen.{Stmt-F}
-use Rattle.gr_lang.specs.declared.syntax.Stmt.TheVariants as s
-use Rattle.gr_lang.specs.declared.syntax.Right.{Right}
-use Rattle.gr_lang.specs.declared.syntax.HowText.{HowText}
-use Rattle.gr_lang.specs.declared.syntax.CallText.{CallText}
-use Rattle.gr_lang.specs.declared.syntax.Name.{Name}
-use Rattle.gr_lang.specs.declared.syntax.Expr.{Expr}
+use Rattle.gr_syntax.specs.declared.syntax.Stmt.{Stmt, out-Stmt, the_lemmas}
+use Rattle.gr_syntax.specs.declared.syntax.Stmt.TheOpen.{Stmt-F}
+use Rattle.gr_syntax.specs.declared.syntax.Stmt.TheVariants as s
+use Rattle.gr_syntax.specs.declared.syntax.Right.{Right}
+use Rattle.gr_syntax.specs.declared.syntax.HowText.{HowText}
+use Rattle.gr_syntax.specs.declared.syntax.CallText.{CallText}
+use Rattle.gr_syntax.specs.declared.syntax.Name.{Name}
+use Rattle.gr_syntax.specs.declared.syntax.Expr.{Expr}
 
 pub out-Set1 : (fresh : Bool) (targets : List Name) (right : Right) → out-Stmt (s.Set1 fresh targets right) ≡ Stmt-F.Set1 fresh targets right
 out-Set1 fresh targets right = search the_lemmas

@@ -7,8 +7,8 @@ use Rattle.std.specs.Ordering.{nat_cmp}
 use Rattle.std.specs.FinSet as set
 use Rattle.std.specs.FinSet.{members}
 use Rattle.std.specs.Prelude.{false}
-use Rattle.gr_lang.specs.declared.syntax.Stmt.{the_lemmas}
-use Rattle.gr_lang.specs.declared.syntax.Expr.{the_lemmas as expr_lemmas}
+use Rattle.gr_syntax.specs.declared.syntax.Stmt.{the_lemmas}
+use Rattle.gr_syntax.specs.declared.syntax.Expr.{the_lemmas as expr_lemmas}
 use Rattle.gr_lang.specs.Objects.{least_start}
 use Rattle.gr_lang.specs.Openings.{opening}
 use Rattle.gr_lang.specs.Next.{next, start, look, go_on}

@@ -1,24 +1,24 @@
 -- Which histories are legal, and which are complete.
 use Rattle.std.specs.Prelude.{ℕ, Bool, false, List, [], ◌∷◌, Option, Some, is_some}
 use Rattle.std.specs.Option.{option_and_then, option_map_or}
-use Rattle.gr_lang.specs.declared.syntax.Program.{Program}
+use Rattle.gr_syntax.specs.declared.syntax.Program.{Program}
 use Rattle.gr_lang.specs.declared.action.Entry.{Entry}
 use Rattle.gr_lang.specs.States.{State, opening_state}
 use Rattle.gr_lang.specs.Steps.{step}
 
 -- The state after some entries, where each is a step.
 abbrev pub after : Program → ℕ → ℕ → State → List Entry → Option State
-after p N L S [] = Some S
-after p N L S (x ∷ xs) = option_and_then (λ T. after p N L T xs) (step p N L S x)
+after program cores limit state [] = Some state
+after program cores limit state (entry ∷ entries) = option_and_then (λ next. after program cores limit next entries) (step program cores limit state entry)
 
 -- The state after a history.
 abbrev pub final : Program → ℕ → ℕ → List Entry → Option State
-final p N L h = after p N L (opening_state p L) h
+final program cores limit history = after program cores limit (opening_state program limit) history
 
 -- Legal: each entry is a step.
 abbrev pub legal : Program → ℕ → ℕ → List Entry → Bool
-legal p N L h = is_some (final p N L h)
+legal program cores limit history = is_some (final program cores limit history)
 
 -- Complete: it is legal, and the root is passed at its end.
 abbrev pub complete : Program → ℕ → ℕ → List Entry → Bool
-complete p N L h = option_map_or (λ S. S.passed) (final p N L h) false
+complete program cores limit history = option_map_or (λ state. state.passed) (final program cores limit history) false

@@ -1,12 +1,16 @@
--- One plain memory: words, sets, maps, lists and the live blocks of the heap, and what one call does to them and replies.
-use Rattle.std.specs.Prelude.{ℕ, zero, suc, ◌+◌, ◌-◌, ◌%◌, ◌^◌, ◌==◌, Bool, not, ◌&&◌, ◌||◌, nat_lt, nat_le, bit_and, bit_or, bit_xor, min, max, if◌then◌else◌, List, [], ◌∷◌, ◌++◌, slice_get, slice_index, slice_set, Option, Some, None, is_some}
+-- One plain memory: words, sets, maps, vectors and the live blocks of the heap; and the object call, which is what one call does to them and replies.
+use Rattle.std.specs.Prelude.{ℕ, zero, suc, ◌+◌, ◌-◌, ◌^◌, ◌==◌, Bool, ◌&&◌, ◌||◌, nat_lt, nat_le, if◌then◌else◌, List, slice_get, slice_index, slice_set, Option, Some, None, is_some}
 use Rattle.std.specs.List.{list_all}
 use Rattle.std.specs.Ordering.{nat_cmp}
 use Rattle.std.specs.FinMap as map
 use Rattle.std.specs.FinSet as set
 use Rattle.gr_lang.specs.Expressions.{number_of}
+use Rattle.gr_lang.specs.Effects.{nothing, one, word_after, word_reply, after, effect_of, key_reply, line_after, line_reply}
+use Rattle.gr_syntax.specs.declared.limits.TheConstants.{HEAP}
 use Rattle.gr_lang.specs.declared.action.Op.{Op}
 use Rattle.gr_lang.specs.declared.action.Op.TheVariants as op
+use Rattle.gr_lang.specs.declared.action.Effect.{Effect}
+use Rattle.gr_lang.specs.declared.action.Effect.TheVariants as effect
 use Rattle.gr_lang.specs.declared.action.Reply.{Reply}
 
 -- What an object holds: an array has `count` words from an address on, a set its keys, a map its pairs, a vector its words from the head.
@@ -28,30 +32,11 @@ pub record Objects : Type 0 where
   pub heap : Heap
   pub live : map.FinMap nat_cmp ℕ
 
--- The eight reducers: add (wrapping), min, max, or, and, xor, first, last. Each is associative on words.
-abbrev pub reduced : ℕ → ℕ → ℕ → ℕ
-reduced k a b =
-    if k == 0 then (a + b) % 2 ^ 64 else (
-    if k == 1 then min a b else (
-    if k == 2 then max a b else (
-    if k == 3 then bit_or a b else (
-    if k == 4 then bit_and a b else (
-    if k == 5 then bit_xor a b else (
-    if k == 6 then a else b))))))
+-- What comes of a call: the objects after it, and its reply.
+abbrev pub Called : Type 0
+Called = Objects × Reply
 
--- A reply; a word that a call doesn't give is 0.
-abbrev pub reply : ℕ → ℕ → Reply
-reply a b = record { first = a; second = b }
-
-abbrev pub nothing : Reply
-nothing = reply 0 0
-
-abbrev pub one : ℕ → Reply
-one a = reply a 0
-
--- The number that names the heap.
-abbrev pub heap_number : ℕ
-heap_number = 255
+-- Words.
 
 -- The address of a place, where the object has that place. The heap's places are addresses.
 abbrev pub address_in : Option Object → ℕ → Option ℕ
@@ -62,79 +47,63 @@ abbrev pub heap_address : Heap → ℕ → Option ℕ
 heap_address heap at = if nat_le heap.from at && nat_lt at (heap.from + heap.count) then Some at else None
 
 abbrev pub address : Objects → ℕ → ℕ → Option ℕ
-address o object place = if object == heap_number then heap_address o.heap place else address_in (slice_get o.things object) place
+address objects object place = if object == HEAP then heap_address objects.heap place else address_in (slice_get objects.things object) place
 
--- A word call replies the word before, and `f` gives the word after.
-abbrev pub on_word_at : Option ℕ → Objects → (ℕ → ℕ) → Objects × Reply
-on_word_at None o f = (o, nothing)
-on_word_at (Some at) o f = (record o { words = slice_set o.words at (f (slice_index o.words at)) }, one (slice_index o.words at))
+abbrev pub at_address : Option ℕ → Op → Objects → Called
+at_address None call objects = (objects, nothing)
+at_address (Some at) call objects =
+    (record objects { words = slice_set objects.words at (word_after call (slice_index objects.words at)) }, word_reply call (slice_index objects.words at))
 
-abbrev pub on_word : Objects → ℕ → ℕ → (ℕ → ℕ) → Objects × Reply
-on_word o object place f = on_word_at (address o object place) o f
+-- A call on the word at a place of an object, where the object has that place.
+abbrev pub on_word : ℕ → ℕ → Op → Objects → Called
+on_word object place call objects = at_address (address objects object place) call objects
 
--- A write gives no word.
-abbrev pub written : Objects × Reply → Objects × Reply
-written r = (r.0, nothing)
+-- Sets, maps and vectors.
 
 -- The objects with another one in the place of one of them.
 abbrev pub with_object : Objects → ℕ → Object → Objects
-with_object o object thing = record o { things = slice_set o.things object thing }
+with_object objects object thing = record objects { things = slice_set objects.things object thing }
 
--- Sets: insert replies 1 where the key was absent, remove and has where it was present.
-abbrev pub insert_in : Option Object → Objects → ℕ → ℕ → Objects × Reply
-insert_in (Some (keys s)) o object key = (with_object o object (keys (set.insert s key)), one (number_of (not (set.contains s key))))
-insert_in _ o object key = (o, nothing)
+-- What stands under a key of a set or map.
+abbrev pub under : Object → ℕ → Option ℕ
+under (keys held) key = if set.contains held key then Some 0 else None
+under (pairs held) key = map.get held key
+under _ key = None
 
-abbrev pub remove_in : Option Object → Objects → ℕ → ℕ → Objects × Reply
-remove_in (Some (keys s)) o object key = (with_object o object (keys (set.remove s key)), one (number_of (set.contains s key)))
-remove_in _ o object key = (o, nothing)
+-- The set or map in which this stands under the key, or nothing.
+abbrev pub with_key : Object → ℕ → Option ℕ → Object
+with_key (keys held) key None = keys (set.remove held key)
+with_key (keys held) key (Some word) = keys (set.insert held key)
+with_key (pairs held) key None = pairs (map.remove held key)
+with_key (pairs held) key (Some word) = pairs (map.insert held key word)
+with_key other key value = other
 
-abbrev pub has_in : Option Object → Objects → ℕ → Objects × Reply
-has_in (Some (keys s)) o key = (o, one (number_of (set.contains s key)))
-has_in _ o key = (o, nothing)
+-- The set or map after an effect on what stands under a key.
+abbrev pub affected : Object → ℕ → Effect → Object
+affected thing key effect.Keep = thing
+affected thing key what = with_key thing key (after what (under thing key))
 
--- Maps: put and merge reply 1 where the key was absent, erase where it was present; get replies 1 and the value, or 0 and 0.
-abbrev pub merged : ℕ → Option ℕ → ℕ → ℕ
-merged k None w = w
-merged k (Some v) w = reduced k v w
+-- What comes of a call of an object: the object after it, and its reply.
+abbrev pub on_key : ℕ → Op → Object → Object × Reply
+on_key key call thing = (affected thing key (effect_of call), key_reply call (under thing key))
 
-abbrev pub put_in : Option Object → Objects → ℕ → ℕ → (Option ℕ → ℕ) → Objects × Reply
-put_in (Some (pairs m)) o object key f = (with_object o object (pairs (map.insert m key (f (map.get m key)))), one (number_of (not (is_some (map.get m key)))))
-put_in _ o object key f = (o, nothing)
+abbrev pub on_line : Op → Object → Object × Reply
+on_line call (line words) = (line (line_after call words), line_reply call words)
+on_line call other = (other, nothing)
 
-abbrev pub found : Option ℕ → Reply
-found None = nothing
-found (Some w) = reply 1 w
+abbrev pub at_object : Option Object → ℕ → (Object → Object × Reply) → Objects → Called
+at_object None object f objects = (objects, nothing)
+at_object (Some thing) object f objects = (with_object objects object (f thing).0, (f thing).1)
 
-abbrev pub get_in : Option Object → Objects → ℕ → Objects × Reply
-get_in (Some (pairs m)) o key = (o, found (map.get m key))
-get_in _ o key = (o, nothing)
+-- A call of the object of that number, where there is one.
+abbrev pub on_object : ℕ → (Object → Object × Reply) → Objects → Called
+on_object object f objects = at_object (slice_get objects.things object) object f objects
 
-abbrev pub erase_in : Option Object → Objects → ℕ → ℕ → Objects × Reply
-erase_in (Some (pairs m)) o object key = (with_object o object (pairs (map.remove m key)), one (number_of (is_some (map.get m key))))
-erase_in _ o object key = (o, nothing)
-
--- Vectors: push puts a word last, pop takes the last and dequeue the first out; both reply 1 and the word, or 0 and 0.
-abbrev pub push_in : Option Object → Objects → ℕ → ℕ → Objects × Reply
-push_in (Some (line ws)) o object word = (with_object o object (line (ws ++ word ∷ [])), nothing)
-push_in _ o object word = (o, nothing)
-
-abbrev pub dequeue_in : Option Object → Objects → ℕ → Objects × Reply
-dequeue_in (Some (line (w ∷ ws))) o object = (with_object o object (line ws), reply 1 w)
-dequeue_in _ o object = (o, nothing)
-
--- All but the last of the words w, v.. , and the last.
-abbrev pub but_last : ℕ → List ℕ → List ℕ × ℕ
-but_last w [] = ([], w)
-but_last w (v ∷ vs) = (w ∷ (but_last v vs).0, (but_last v vs).1)
-
-abbrev pub pop_in : Option Object → Objects → ℕ → Objects × Reply
-pop_in (Some (line (w ∷ ws))) o object = (with_object o object (line (but_last w ws).0), reply 1 (but_last w ws).1)
-pop_in _ o object = (o, nothing)
+-- The heap.
 
 -- Whether n words from this start on touch no live block.
 abbrev pub is_free : map.FinMap nat_cmp ℕ → ℕ → ℕ → Bool
-is_free live start n = list_all (λ b. nat_le (start + n) b.0 || nat_le (b.0 + b.1) start) (map.entries live)
+is_free live start n = list_all (λ block. nat_le (start + n) block.0 || nat_le (block.0 + block.1) start) (map.entries live)
 
 -- The least of `turns` starts, from this one on, at which n words are free.
 unfoldable pub least_start : ℕ → map.FinMap nat_cmp ℕ → ℕ → ℕ → Option ℕ
@@ -146,34 +115,34 @@ abbrev pub start_in : Heap → map.FinMap nat_cmp ℕ → ℕ → Option ℕ
 start_in heap live n = if n == 0 then None else least_start (heap.count + 1 - n) live heap.from n
 
 abbrev pub start_for : Objects → ℕ → Option ℕ
-start_for o n = start_in o.heap o.live n
+start_for objects n = start_in objects.heap objects.live n
 
 -- alloc makes such a block live and replies its start, or 2^64 - 1 where there is none; words keep their values.
-abbrev pub alloc_at : Option ℕ → Objects → ℕ → Objects × Reply
-alloc_at None o n = (o, one (2 ^ 64 - 1))
-alloc_at (Some start) o n = (record o { live = map.insert o.live start n }, one start)
+abbrev pub alloc_at : Option ℕ → ℕ → Objects → Called
+alloc_at None n objects = (objects, one (2 ^ 64 - 1))
+alloc_at (Some start) n objects = (record objects { live = map.insert objects.live start n }, one start)
 
 -- free replies 1 where a live block starts at the address, which then isn't live any more.
-abbrev pub free_at : Objects → ℕ → Objects × Reply
-free_at o at = (record o { live = map.remove o.live at }, one (number_of (is_some (map.get o.live at))))
+abbrev pub free_at : ℕ → Objects → Called
+free_at at objects = (record objects { live = map.remove objects.live at }, one (number_of (is_some (map.get objects.live at))))
 
 -- The object call: the objects after one call, and its reply.
-abbrev pub call : Op → Objects → Objects × Reply
-call (op.Read object place) o = on_word o object place (λ w. w)
-call (op.Write object place word) o = written (on_word o object place (λ w. word))
-call (op.Add object place word) o = on_word o object place (λ w. (w + word) % 2 ^ 64)
-call (op.Cas object place old new) o = on_word o object place (λ w. if w == old then new else w)
-call (op.Reduce object reducer place word) o = on_word o object place (λ w. reduced reducer w word)
-call (op.Insert object key) o = insert_in (slice_get o.things object) o object key
-call (op.Remove object key) o = remove_in (slice_get o.things object) o object key
-call (op.Has object key) o = has_in (slice_get o.things object) o key
-call (op.Put object key word) o = put_in (slice_get o.things object) o object key (λ v. word)
-call (op.Get object key) o = get_in (slice_get o.things object) o key
-call (op.Erase object key) o = erase_in (slice_get o.things object) o object key
-call (op.Merge object reducer key word) o = put_in (slice_get o.things object) o object key (λ v. merged reducer v word)
-call (op.Push object word) o = push_in (slice_get o.things object) o object word
-call (op.Pop object) o = pop_in (slice_get o.things object) o object
-call (op.Dequeue object) o = dequeue_in (slice_get o.things object) o object
-call (op.Alloc count) o = alloc_at (start_for o count) o count
-call (op.Free place) o = free_at o place
-call (op.Print word) o = (o, nothing)
+abbrev pub call : Op → Objects → Called
+call (op.Read object place) = on_word object place (op.Read object place)
+call (op.Write object place word) = on_word object place (op.Write object place word)
+call (op.Add object place word) = on_word object place (op.Add object place word)
+call (op.Cas object place old new) = on_word object place (op.Cas object place old new)
+call (op.Reduce object reducer place word) = on_word object place (op.Reduce object reducer place word)
+call (op.Insert object key) = on_object object (on_key key (op.Insert object key))
+call (op.Remove object key) = on_object object (on_key key (op.Remove object key))
+call (op.Has object key) = on_object object (on_key key (op.Has object key))
+call (op.Put object key word) = on_object object (on_key key (op.Put object key word))
+call (op.Get object key) = on_object object (on_key key (op.Get object key))
+call (op.Erase object key) = on_object object (on_key key (op.Erase object key))
+call (op.Merge object reducer key word) = on_object object (on_key key (op.Merge object reducer key word))
+call (op.Push object word) = on_object object (on_line (op.Push object word))
+call (op.Pop object) = on_object object (on_line (op.Pop object))
+call (op.Dequeue object) = on_object object (on_line (op.Dequeue object))
+call (op.Alloc count) = λ objects. alloc_at (start_for objects count) count objects
+call (op.Free place) = free_at place
+call (op.Print word) = λ objects. (objects, nothing)

@@ -6,7 +6,7 @@ use Rattle.std.specs.Ordering.{nat_cmp, ordering_then}
 use Rattle.std.specs.declared.cmp.Ordering.{Ordering}
 use Rattle.std.specs.FinMap as fin
 use Rattle.std.specs.FinSet as set
-use Rattle.gr_lang.specs.declared.syntax.Program.{Program}
+use Rattle.gr_syntax.specs.declared.syntax.Program.{Program}
 use Rattle.gr_lang.specs.declared.action.Action.{Action}
 use Rattle.gr_lang.specs.declared.action.TaskId.{TaskId}
 use Rattle.gr_lang.specs.Objects.{Objects}
@@ -61,16 +61,16 @@ abbrev pub begun_task : ℕ → Stands → Task
 begun_task scope at = record { scope = scope; action = at.0; running = at.1; opened = []; mode = going }
 
 abbrev pub child : Program → ℕ → ℕ → ℕ → List ℕ → Task
-child p L scope target ws = begun_task scope (next p L (start p target ws))
+child program limit scope target words = begun_task scope (next program limit (start program target words))
 
 abbrev pub root : Scope
 root = record { owner = None; parent = 0; range = None }
 
--- Before the first entry: the opening objects, and main in the root scope. L is the limit of pure steps.
+-- Before the first entry: the opening objects, and main in the root scope.
 abbrev pub opening_state : Program → ℕ → State
-opening_state p L = record {
-  objects = opening p;
-  tasks = fin.insert fin.empty main_id (child p L 0 (target_of p (codes "main")) []);
+opening_state program limit = record {
+  objects = opening program;
+  tasks = fin.insert fin.empty main_id (child program limit 0 (target_of program (codes "main")) []);
   scopes = root ∷ [];
   passed = false;
 }
@@ -78,10 +78,10 @@ opening_state p L = record {
 -- The scope under which the task's new work stands: the innermost that it has opened, or else its own.
 abbrev pub innermost_of : ℕ → List ℕ → ℕ
 innermost_of own [] = own
-innermost_of own (s ∷ ss) = s
+innermost_of own (scope ∷ scopes) = scope
 
 abbrev pub innermost : Task → ℕ
-innermost t = innermost_of t.scope t.opened
+innermost task = innermost_of task.scope task.opened
 
 abbrev pub has_ended : Mode → Bool
 has_ended ended = true
@@ -97,11 +97,11 @@ is_at_loop _ = false
 
 -- Whether scope r is s or stands under it, looking `depth` scopes up.
 abbrev pub is_under : ℕ → List Scope → ℕ → ℕ → Bool
-is_under zero scopes s r = r == s
-is_under (suc depth) scopes s r = r == s || option_map_or (λ x. is_some x.owner && is_under depth scopes s x.parent) (slice_get scopes r) false
+is_under zero scopes scope r = r == scope
+is_under (suc depth) scopes scope r = r == scope || option_map_or (λ x. is_some x.owner && is_under depth scopes scope x.parent) (slice_get scopes r) false
 
 abbrev pub is_in : State → ℕ → ℕ → Bool
-is_in S s r = is_under (length S.scopes) S.scopes s r
+is_in state scope r = is_under (length state.scopes) state.scopes scope r
 
 -- Whether an index of the range hasn't begun.
 abbrev pub range_left : Option Range → Bool
@@ -110,9 +110,9 @@ range_left (Some r) = nat_lt (set.len r.begun) (r.hi - r.lo)
 
 -- Whether a scope of the list, whose first has number n, stands under s and has such an index.
 abbrev pub ranges_left : State → ℕ → ℕ → List Scope → Bool
-ranges_left S s n [] = false
-ranges_left S s n (x ∷ xs) = (is_in S s n && range_left x.range) || ranges_left S s (n + 1) xs
+ranges_left state scope n [] = false
+ranges_left state scope n (x ∷ xs) = (is_in state scope n && range_left x.range) || ranges_left state scope (n + 1) xs
 
 -- Unfinished work: a task under the scope hasn't ended, or an index of a loop under it hasn't begun.
 unfoldable pub left : State → ℕ → Bool
-left S s = list_any (λ t. not (has_ended t.mode) && is_in S s t.scope) (fin.values S.tasks) || ranges_left S s 0 S.scopes
+left state scope = list_any (λ task. not (has_ended task.mode) && is_in state scope task.scope) (fin.values state.tasks) || ranges_left state scope 0 state.scopes

@@ -1,31 +1,29 @@
 //! What tasks do: operations with their words, actions, and the entries of a history.
 ghost use Rattle.std.specs.Prelude.{◌≡◌, IfOk};
-ghost use Rattle.gr_lang.specs.Fields.{same_op, same_reply, same_how, same_trap};
+ghost use Rattle.gr_lang.specs.Fields.{same_reply, same_how, same_trap};
 ghost use Rattle.gr_lang.specs.Traps.{trap_word};
 
 use crate::lists::Words;
+use gr_accept::Operation;
 use std::alloc::AllocError;
-
-/// The greatest number of cores.
-pub const MAX_CORES: u64 = 16;
 
 /// The name of a task in a run: a core and the number that the core gave it. The first task, `main`, is
 /// number 0 of core 0.
-#[derive(Clone, Copy, Debug, PartialEq, Eq, PartialOrd, Ord)]
+#[derive(Clone, Copy, PartialEq, Eq, PartialOrd, Ord)]
 pub struct TaskId {
     pub core: u64,
     pub number: u64,
 }
 
 /// The two words that a call replies. A word that the call doesn't give is 0.
-#[derive(Clone, Copy, Debug, PartialEq, Eq)]
+#[derive(Clone, Copy, PartialEq, Eq)]
 pub struct Reply {
     pub first: u64,
     pub second: u64,
 }
 
 /// Why a task is trapped.
-#[derive(Clone, Copy, Debug, PartialEq, Eq)]
+#[derive(Clone, Copy, PartialEq, Eq)]
 pub enum TrapKind {
     /// A divisor of 0.
     Div,
@@ -38,7 +36,7 @@ pub enum TrapKind {
 }
 
 /// Where a new task may run.
-#[derive(Clone, Copy, Debug, PartialEq, Eq)]
+#[derive(Clone, Copy, PartialEq, Eq)]
 pub enum How {
     /// At the core of the task that spawns it.
     Here,
@@ -50,7 +48,7 @@ pub enum How {
 
 /// An operation with its evaluated words. Objects have numbers from 0 in the order of the text, and the
 /// heap has number 255. A reducer is a number from 0 to 7.
-#[derive(Clone, Copy, Debug, PartialEq, Eq)]
+#[derive(Clone, Copy, PartialEq, Eq)]
 pub enum Op {
     Read {
         object: u64,
@@ -130,8 +128,25 @@ pub enum Op {
     },
 }
 
+/// An operation taken apart.
+#[derive(Clone, Copy)]
+pub enum Parts {
+    /// A call: its operation, the number of its object, its reducer, if it takes one, and its words. A word
+    /// that the operation doesn't take is 0.
+    Call {
+        operation: Operation,
+        object: u64,
+        reducer: Option<u64>,
+        words: [u64; 3],
+    },
+    /// A print, with its word.
+    Print {
+        word: u64,
+    },
+}
+
 /// What a task does next, after its pure steps. Tasks have numbers from 0 in the order of the text.
-#[derive(Debug, Drop)]
+#[derive(Drop)]
 pub enum Action {
     /// A call, or a print.
     Call {
@@ -164,7 +179,7 @@ pub enum Action {
 }
 
 /// An entry of a history.
-#[derive(Debug, Drop)]
+#[derive(Drop)]
 pub enum Entry {
     /// A task's call, with its reply.
     Call {
@@ -277,7 +292,7 @@ impl Entry {
 }
 
 /// What a call makes of the value of a key or word, which may be absent.
-#[derive(Clone, Copy, Debug, PartialEq, Eq)]
+#[derive(Clone, Copy, PartialEq, Eq)]
 pub enum Effect {
     /// It stays.
     Keep,
@@ -290,20 +305,11 @@ pub enum Effect {
 }
 
 /// A call that waits in a slot of its core.
-#[derive(Clone, Copy, Debug, PartialEq, Eq)]
+#[derive(Clone, Copy, PartialEq, Eq)]
 pub struct WaitingCall {
     pub slot: u64,
     pub id: TaskId,
     pub op: Op,
-}
-
-impl Op {
-    /// Whether both are the same operation with the same words.
-    pub fn is(&self, other: &Op) -> bool
-        ensures { result ≡ same_op self.now other.now }
-    {
-        self == other
-    }
 }
 
 impl Reply {

@@ -1,14 +1,17 @@
-//! The task language: its syntax trees, the actions of its tasks, and the definitions that say what a
-//! program means on one plain memory.
+//! What a program means: what its tasks do next, what a call does to one plain memory and replies, and which
+//! histories of a run are legal and complete.
 #![tactic(auto)]
 
-pub mod accepted;
-pub mod action;
-pub mod calls;
-pub mod lists;
-pub mod operation;
-pub mod refusal;
-pub mod rows;
-pub mod step_rows;
-pub mod syntax;
-pub mod targets;
+mod action;
+mod effects;
+mod laws;
+mod lists;
+mod parts;
+mod step_rows;
+
+pub use action::{Action, Effect, Entry, How, Op, Parts, Reply, TaskId, TrapKind, WaitingCall};
+pub use effects::reduced;
+pub use laws::{operations_are_their_parts, reducers_are_associative};
+pub use lists::{Calls, History, Pairs, Sequence, Words};
+pub use parts::op_of;
+pub use step_rows::{call_rows, object_rows, scope_rows, seven_rows};

@@ -4,7 +4,8 @@ use Rattle.std.specs.Ordering.{nat_cmp}
 use Rattle.std.specs.FinMap as map
 use Rattle.std.specs.FinSet as set
 use Rattle.gr_lang.specs.Expressions.{number_of}
-use Rattle.gr_lang.specs.Objects.{Object, array, keys, pairs, line, reduced, merged, found, one, nothing}
+use Rattle.gr_lang.specs.Objects.{Object, array, keys, pairs, line, merged}
+use Rattle.gr_lang.specs.Effects.{reduced, found, one, nothing}
 use Rattle.gr_lang.specs.declared.action.Op.{Op}
 use Rattle.gr_lang.specs.declared.action.Op.TheVariants as op
 use Rattle.gr_lang.specs.declared.action.Reply.{Reply}

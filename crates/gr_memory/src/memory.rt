@@ -7,8 +7,8 @@ ghost use Rattle.gr_memory.specs.ThingView.{things_of, LiesIn};
 
 use crate::things::{Thing, apply_at, nothing, one, reduced, reply_of, whether};
 use gr_alloc::blocks::Blocks;
-use gr_lang::action::{Op, Reply};
-use gr_lang::operation::HEAP;
+use gr_lang::{Op, Reply};
+use gr_syntax::HEAP;
 use std::alloc::{AllocError, Global};
 use std::marker::Model;
 

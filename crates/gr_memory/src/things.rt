@@ -8,7 +8,7 @@ ghost use Rattle.gr_memory.specs.ThingCalls.{line_after, line_reply, map_after, 
 ghost use Rattle.gr_memory.specs.ThingView.{thing_of, things_of, LiesIn};
 
 use crate::parts::{Keys, Line, Pairs};
-use gr_lang::action::{Op, Reply};
+use gr_lang::{Op, Reply};
 use std::alloc::{AllocError, Global};
 
 /// What the object of a program holds.

@@ -5,8 +5,8 @@ ghost use Rattle.gr_memory.specs.ThingView.{LiesIn};
 use crate::memory::Memory;
 use crate::parts::Keys;
 use crate::things::Thing;
-use gr_lang::action::{Op, Reply};
-use gr_lang::operation::HEAP;
+use gr_lang::{Op, Reply};
+use gr_syntax::HEAP;
 use std::alloc::{AllocError, Global};
 use std::test::Fail;
 

@@ -6,11 +6,11 @@ use Rattle.gr_meets.specs.Languages.{Read, Meets}
 use Rattle.gr_meets.specs.Lists.{Separated, Enclosed}
 use Rattle.gr_meets.proofs.Meets.{weaken, meets_pure, look_meets, skip_then, expect_then, bind, value_then, value_meets, peek_means}
 use Rattle.gr_meets.proofs.Commas.{separated_meets, enclosed_meets}
-use Rattle.gr_lang.specs.declared.syntax.Name.{Name}
-use Rattle.gr_lang.specs.declared.syntax.Number.{Number}
-use Rattle.gr_lang.specs.declared.syntax.Expr.{Expr}
-use Rattle.gr_lang.specs.declared.syntax.Expr.TheVariants as tree
-use Rattle.gr_lang.specs.declared.syntax.CallText.{CallText}
+use Rattle.gr_syntax.specs.declared.syntax.Name.{Name}
+use Rattle.gr_syntax.specs.declared.syntax.Number.{Number}
+use Rattle.gr_syntax.specs.declared.syntax.Expr.{Expr}
+use Rattle.gr_syntax.specs.declared.syntax.Expr.TheVariants as tree
+use Rattle.gr_syntax.specs.declared.syntax.CallText.{CallText}
 use Rattle.gr_text.specs.declared.token.Sign.TheVariants as signs
 use Rattle.gr_parse.specs.Tok.{Tok, is_sign, name_of, number_of}
 use Rattle.gr_parse.specs.Operands.{Toks, name, number, semicolon, expr, args, some_name, reducer, call_of, operation, method, call}

@@ -6,11 +6,11 @@ use Rattle.gr_meets.specs.Lists.{Separated, Enclosed}
 use Rattle.gr_meets.proofs.Completes.{then_reads, expect_reads, look_reads, value_reads, value_is, completes_weaken}
 use Rattle.gr_meets.proofs.Agrees.{agree_self, agree_bind, agree_expect, agree_value, shortens}
 use Rattle.gr_meets.proofs.Commas.{separated_meets, separated_completes, enclosed_completes, separated_agree, enclosed_agree}
-use Rattle.gr_lang.specs.declared.syntax.Name.{Name}
-use Rattle.gr_lang.specs.declared.syntax.Number.{Number}
-use Rattle.gr_lang.specs.declared.syntax.Expr.{Expr}
-use Rattle.gr_lang.specs.declared.syntax.Expr.TheVariants as tree
-use Rattle.gr_lang.specs.declared.syntax.CallText.{CallText}
+use Rattle.gr_syntax.specs.declared.syntax.Name.{Name}
+use Rattle.gr_syntax.specs.declared.syntax.Number.{Number}
+use Rattle.gr_syntax.specs.declared.syntax.Expr.{Expr}
+use Rattle.gr_syntax.specs.declared.syntax.Expr.TheVariants as tree
+use Rattle.gr_syntax.specs.declared.syntax.CallText.{CallText}
 use Rattle.gr_text.specs.declared.token.Keyword.{Keyword}
 use Rattle.gr_text.specs.declared.token.Sign.TheVariants as signs
 use Rattle.gr_parse.specs.Tok.{Tok, is_sign, same_sign, name_of, number_of, object_of, sign_of, operator}

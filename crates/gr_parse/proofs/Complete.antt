@@ -6,9 +6,9 @@ use Rattle.gr_meets.specs.Languages.{Meets, Completes}
 use Rattle.gr_meets.specs.Lists.{Spends, Loose}
 use Rattle.gr_meets.proofs.Completes.{then_reads, expect_reads, either_first, either_second, look_reads, value_reads}
 use Rattle.gr_meets.proofs.Levels.{levels_completes, levels_are}
-use Rattle.gr_lang.specs.declared.syntax.BinOp.{BinOp}
-use Rattle.gr_lang.specs.declared.syntax.Expr.{Expr}
-use Rattle.gr_lang.specs.declared.syntax.Expr.TheVariants as tree
+use Rattle.gr_syntax.specs.declared.syntax.BinOp.{BinOp}
+use Rattle.gr_syntax.specs.declared.syntax.Expr.{Expr}
+use Rattle.gr_syntax.specs.declared.syntax.Expr.TheVariants as tree
 use Rattle.gr_text.specs.declared.token.Sign.{Sign}
 use Rattle.gr_text.specs.declared.token.Sign.TheVariants as signs
 use Rattle.gr_parse.specs.Tok.{Tok, is_sign, same_sign, sign_of, level_of, atom_of, operator}

@@ -7,10 +7,10 @@ use Rattle.gr_meets.specs.Lists.{Chained, Spends, Levels, Onward}
 use Rattle.gr_meets.proofs.Meets.{weaken, meets_pure, read_refuse, look_meets, skip_then, expect_then, either_meets, bind, value_then, peek_means}
 use Rattle.gr_meets.proofs.Levels.{levels_meets, onward_meets}
 use Rattle.gr_meets.proofs.Chains.{spends_less}
-use Rattle.gr_lang.specs.declared.syntax.BinOp.{BinOp}
-use Rattle.gr_lang.specs.declared.syntax.Number.{Number}
-use Rattle.gr_lang.specs.declared.syntax.Expr.{Expr}
-use Rattle.gr_lang.specs.declared.syntax.Expr.TheVariants as tree
+use Rattle.gr_syntax.specs.declared.syntax.BinOp.{BinOp}
+use Rattle.gr_syntax.specs.declared.syntax.Number.{Number}
+use Rattle.gr_syntax.specs.declared.syntax.Expr.{Expr}
+use Rattle.gr_syntax.specs.declared.syntax.Expr.TheVariants as tree
 use Rattle.gr_text.specs.declared.token.Sign.TheVariants as signs
 use Rattle.gr_parse.specs.Tok.{Tok, sign_of, atom_of, operator}
 use Rattle.gr_parse.specs.Operands.{Toks, Counted, negation, two, atom, comparing, comparison, group, unary, expr, expr_from, loosest, max_signs}

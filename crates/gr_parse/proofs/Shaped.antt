@@ -3,19 +3,19 @@ use Rattle.std.proofs.Common.{◌≡◌, ℕ, Bool, true, false, ◌&&◌, List,
 use Rattle.std.specs.List.{list_all}
 use Rattle.std.specs.Prelude.{map}
 use Rattle.gr_meets.specs.Lists.{Repeated}
-use Rattle.gr_lang.specs.declared.syntax.Name.{Name}
-use Rattle.gr_lang.specs.declared.syntax.Expr.{Expr}
-use Rattle.gr_lang.specs.declared.syntax.CallText.{CallText}
-use Rattle.gr_lang.specs.declared.syntax.Right.{Right}
-use Rattle.gr_lang.specs.declared.syntax.Right.TheVariants as right
-use Rattle.gr_lang.specs.declared.syntax.HowText.{HowText}
-use Rattle.gr_lang.specs.declared.syntax.Stmt.{Stmt}
-use Rattle.gr_lang.specs.declared.syntax.Stmt.TheVariants as st
-use Rattle.gr_lang.specs.declared.syntax.Stmt.TheOpen.{Stmt-F}
-use Rattle.gr_lang.specs.declared.syntax.Stmt.TheFolds.{fold-roll-Stmt}
-use Rattle.gr_lang.specs.declared.syntax.Item.{Item}
-use Rattle.gr_lang.specs.declared.syntax.Program.{Program}
-use Rattle.gr_lang.specs.Targets.{fit, fit_step, stmt_fits, item_fits, targets_fit}
+use Rattle.gr_syntax.specs.declared.syntax.Name.{Name}
+use Rattle.gr_syntax.specs.declared.syntax.Expr.{Expr}
+use Rattle.gr_syntax.specs.declared.syntax.CallText.{CallText}
+use Rattle.gr_syntax.specs.declared.syntax.Right.{Right}
+use Rattle.gr_syntax.specs.declared.syntax.Right.TheVariants as right
+use Rattle.gr_syntax.specs.declared.syntax.HowText.{HowText}
+use Rattle.gr_syntax.specs.declared.syntax.Stmt.{Stmt}
+use Rattle.gr_syntax.specs.declared.syntax.Stmt.TheVariants as st
+use Rattle.gr_syntax.specs.declared.syntax.Stmt.TheOpen.{Stmt-F}
+use Rattle.gr_syntax.specs.declared.syntax.Stmt.TheFolds.{fold-roll-Stmt}
+use Rattle.gr_syntax.specs.declared.syntax.Item.{Item}
+use Rattle.gr_syntax.specs.declared.syntax.Program.{Program}
+use Rattle.gr_syntax.specs.Targets.{fit, fit_step, stmt_fits, item_fits, targets_fit}
 use Rattle.gr_parse.specs.Operands.{Toks}
 use Rattle.gr_parse.specs.Grammar.{IsRight, IsAssignment, IsStmt, IsBlock, IsStmts, IsItem, IsProgram}
 

@@ -1,9 +1,9 @@
 -- One step of each part of the parser that goes by a number.
 use Rattle.std.proofs.Common.{◌≡◌, ℕ, zero, suc, ◌-◌, ◌^◌, ◌<◌, Bool, true, false, cond, Option, Some, None, List, [], ◌∷◌, length, Ok, Err, refl, sym, ◌∙◌, ap, arith}
 use Rattle.gr_meets.specs.Parsers.{Parser, and_then, ◌>>=◌, ◌>>◌, pure, sees, peek, next, expect, halts, level, levels, chain, run, commas, separated}
-use Rattle.gr_lang.specs.declared.syntax.Name.{Name}
-use Rattle.gr_lang.specs.declared.syntax.Expr.{Expr}
-use Rattle.gr_lang.specs.declared.syntax.Stmt.{Stmt}
+use Rattle.gr_syntax.specs.declared.syntax.Name.{Name}
+use Rattle.gr_syntax.specs.declared.syntax.Expr.{Expr}
+use Rattle.gr_syntax.specs.declared.syntax.Stmt.{Stmt}
 use Rattle.gr_text.specs.declared.token.Sign.TheVariants as signs
 use Rattle.gr_parse.specs.Tok.{Tok, operator, is_missing, is_sign, name_of}
 use Rattle.gr_parse.specs.Operands.{Toks, Counted, two, plenty, args}

@@ -2,7 +2,7 @@
 use Rattle.std.proofs.Common.{◌≡◌, ℕ, false, None, List, [], ◌∷◌, refl}
 use Rattle.std.proofs.lemmas.List.Elements.{All-head}
 use Rattle.gr_meets.specs.Parsers.{sees}
-use Rattle.gr_lang.specs.declared.syntax.Place.{Place}
+use Rattle.gr_syntax.specs.declared.syntax.Place.{Place}
 use Rattle.gr_text.specs.declared.token.Keyword.{Keyword}
 use Rattle.gr_text.specs.declared.token.Keyword.TheVariants as k
 use Rattle.gr_text.specs.declared.token.Sign.{Sign}

@@ -2,22 +2,22 @@
 use Rattle.std.specs.Prelude.{◌≡◌, ℕ, zero, suc, ◌+◌, ◌≤◌, Bool, true, false, List, [], ◌∷◌, ◌++◌, Some, None}
 use Rattle.gr_meets.specs.Lists.{Repeated, Separated, Enclosed}
 use Rattle.gr_meets.specs.Faults.{Continues}
-use Rattle.gr_lang.specs.declared.syntax.Place.{Place}
-use Rattle.gr_lang.specs.declared.syntax.Name.{Name}
-use Rattle.gr_lang.specs.declared.syntax.Number.{Number}
-use Rattle.gr_lang.specs.declared.syntax.BinOp.{BinOp}
-use Rattle.gr_lang.specs.declared.syntax.Expr.{Expr}
-use Rattle.gr_lang.specs.declared.syntax.Expr.TheVariants as e
-use Rattle.gr_lang.specs.declared.syntax.CallText.{CallText}
-use Rattle.gr_lang.specs.declared.syntax.Right.{Right}
-use Rattle.gr_lang.specs.declared.syntax.Right.TheVariants as right
-use Rattle.gr_lang.specs.declared.syntax.HowText.{HowText}
-use Rattle.gr_lang.specs.declared.syntax.HowText.TheVariants as how
-use Rattle.gr_lang.specs.declared.syntax.Stmt.{Stmt}
-use Rattle.gr_lang.specs.declared.syntax.Stmt.TheVariants as st
-use Rattle.gr_lang.specs.declared.syntax.Item.{Item}
-use Rattle.gr_lang.specs.declared.syntax.Item.TheVariants as items
-use Rattle.gr_lang.specs.declared.syntax.Program.{Program}
+use Rattle.gr_syntax.specs.declared.syntax.Place.{Place}
+use Rattle.gr_syntax.specs.declared.syntax.Name.{Name}
+use Rattle.gr_syntax.specs.declared.syntax.Number.{Number}
+use Rattle.gr_syntax.specs.declared.syntax.BinOp.{BinOp}
+use Rattle.gr_syntax.specs.declared.syntax.Expr.{Expr}
+use Rattle.gr_syntax.specs.declared.syntax.Expr.TheVariants as e
+use Rattle.gr_syntax.specs.declared.syntax.CallText.{CallText}
+use Rattle.gr_syntax.specs.declared.syntax.Right.{Right}
+use Rattle.gr_syntax.specs.declared.syntax.Right.TheVariants as right
+use Rattle.gr_syntax.specs.declared.syntax.HowText.{HowText}
+use Rattle.gr_syntax.specs.declared.syntax.HowText.TheVariants as how
+use Rattle.gr_syntax.specs.declared.syntax.Stmt.{Stmt}
+use Rattle.gr_syntax.specs.declared.syntax.Stmt.TheVariants as st
+use Rattle.gr_syntax.specs.declared.syntax.Item.{Item}
+use Rattle.gr_syntax.specs.declared.syntax.Item.TheVariants as items
+use Rattle.gr_syntax.specs.declared.syntax.Program.{Program}
 use Rattle.gr_text.specs.declared.token.Keyword.TheVariants as k
 use Rattle.gr_text.specs.declared.token.Sign.TheVariants as s
 use Rattle.gr_text.specs.declared.token.TokenKind.TheVariants as kind

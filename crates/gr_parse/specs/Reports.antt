@@ -1,6 +1,6 @@
 -- What the parser reports of a fault: the error at the token behind which so many are left.
 use Rattle.std.specs.Prelude.{◌≡◌, ℕ, ◌<◌, List, ◌∷◌, ◌++◌, length}
-use Rattle.gr_lang.specs.declared.syntax.Place.{Place}
+use Rattle.gr_syntax.specs.declared.syntax.Place.{Place}
 use Rattle.gr_text.specs.declared.token.Token.{Token}
 use Rattle.gr_text.specs.declared.token.TokenKind.{TokenKind}
 use Rattle.gr_text.specs.declared.token.TokenKind.TheVariants as kind

@@ -7,7 +7,7 @@ ghost use Rattle.gr_parse.specs.Parsing.{Gives};
 use crate::fault::Stop;
 use crate::lists::{enclosed, name};
 use crate::rest::Rest;
-use gr_lang::syntax::{CallText, Exprs, Name};
+use gr_syntax::{CallText, Exprs, Name};
 use gr_text::token::Sign;
 use std::alloc::Global;
 

@@ -10,7 +10,7 @@ use crate::fault::Stop;
 use crate::lists::name;
 use crate::meaning::make_heap_name;
 use crate::rest::Rest;
-use gr_lang::syntax::{Expr, Name, Names, Right, Stmt};
+use gr_syntax::{Expr, Name, Names, Right, Stmt};
 use gr_text::token::Sign;
 use sqlite_items::Items;
 use std::alloc::{AllocError, Global};

@@ -12,7 +12,7 @@ use crate::fault::Stop;
 use crate::meaning::make_heap_name;
 use crate::rest::Rest;
 use crate::starts::{heap_statement, named_statement, plain_statement};
-use gr_lang::syntax::{Block, Stmt};
+use gr_syntax::{Block, Stmt};
 use gr_text::token::{Keyword, Sign};
 use sqlite_items::Items;
 use std::alloc::Global;

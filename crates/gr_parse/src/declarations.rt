@@ -1,8 +1,8 @@
 //! The items of a program.
 
 ghost use Rattle.std.specs.Prelude.{◌≡◌, []};
-ghost use Rattle.gr_lang.specs.declared.syntax.Name.{Name as NameValue};
-ghost use Rattle.gr_lang.specs.declared.syntax.Item.{Item as ItemValue};
+ghost use Rattle.gr_syntax.specs.declared.syntax.Name.{Name as NameValue};
+ghost use Rattle.gr_syntax.specs.declared.syntax.Item.{Item as ItemValue};
 ghost use Rattle.gr_parse.specs.Parsing as spec;
 ghost use Rattle.gr_parse.specs.Parsing.{Gives};
 
@@ -10,7 +10,7 @@ use crate::blocks::block;
 use crate::fault::Stop;
 use crate::lists::{enclosed, name, number, separated};
 use crate::rest::Rest;
-use gr_lang::syntax::{Item, Name, Names};
+use gr_syntax::{Item, Name, Names};
 use gr_text::token::{Keyword, Sign};
 use sqlite_items::Items;
 use std::alloc::Global;

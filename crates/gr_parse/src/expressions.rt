@@ -8,7 +8,7 @@ ghost use Rattle.gr_parse.specs.Parsing.{Gives};
 
 use crate::fault::Stop;
 use crate::rest::Rest;
-use gr_lang::syntax::{BinOp, Expr};
+use gr_syntax::{BinOp, Expr};
 use gr_text::token::Sign;
 use sqlite_items::Boxed;
 use std::alloc::{AllocError, Global};

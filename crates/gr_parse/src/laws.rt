@@ -1,7 +1,7 @@
 //! What the answers of the parser are worth: a text has one of them.
 
 ghost use Rattle.std.specs.Prelude.{◌≡◌, ◌≢◌, ℕ, List};
-ghost use Rattle.gr_lang.specs.declared.syntax.Program.{Program};
+ghost use Rattle.gr_syntax.specs.declared.syntax.Program.{Program};
 ghost use Rattle.gr_text.specs.Text.{AreTokens};
 ghost use Rattle.gr_text.specs.declared.token.Token.{Token};
 ghost use Rattle.gr_parse.specs.declared.fault.ParseError.{ParseError};

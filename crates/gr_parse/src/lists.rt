@@ -10,7 +10,7 @@ ghost use Rattle.gr_parse.specs.Parsing.{Gives};
 use crate::expressions::expr;
 use crate::fault::Stop;
 use crate::rest::Rest;
-use gr_lang::syntax::{Expr, Name, Number};
+use gr_syntax::{Expr, Name, Number};
 use gr_text::token::Sign;
 use sqlite_items::Items;
 use std::alloc::Global;

@@ -3,12 +3,12 @@
 ghost use Rattle.std.specs.Prelude.{◌≡◌, List, ℕ, IfOk, slice_range};
 ghost use Rattle.std.specs.Str.{IsUtf8};
 ghost use Rattle.std.specs.Option.{option_map};
-ghost use Rattle.gr_lang.specs.declared.syntax.Place.{Place as PlaceValue};
+ghost use Rattle.gr_syntax.specs.declared.syntax.Place.{Place as PlaceValue};
 ghost use Rattle.gr_parse.specs.Tok as tok;
 ghost use Rattle.gr_parse.specs.Tok.{tok_of, heap_name};
 ghost use Rattle.gr_parse.specs.Sound.{IsNamed, IsSound};
 
-use gr_lang::syntax::{BinOp, Expr, Name, Number, Place, Text};
+use gr_syntax::{BinOp, Expr, Name, Number, Place, Text};
 use gr_text::token::{Keyword, Sign, Token, TokenKind};
 use std::alloc::{AllocError, Global};
 

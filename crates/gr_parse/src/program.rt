@@ -1,8 +1,8 @@
 //! The program of a text.
 
 ghost use Rattle.std.specs.Prelude.{◌≡◌, ◌<◌, ◌^◌, true, length, IfOk, IfErr, MatchResult};
-ghost use Rattle.gr_lang.specs.declared.syntax.Program.{Program as ProgramValue};
-ghost use Rattle.gr_lang.specs.Targets.{targets_fit};
+ghost use Rattle.gr_syntax.specs.declared.syntax.Program.{Program as ProgramValue};
+ghost use Rattle.gr_syntax.specs.Targets.{targets_fit};
 ghost use Rattle.gr_text.specs.Text.{AreTokens};
 ghost use Rattle.gr_parse.specs.Grammar.{IsProgramOf, Says};
 ghost use Rattle.gr_parse.specs.Reports as reports;
@@ -11,7 +11,7 @@ ghost use Rattle.gr_parse.specs.Reports.{IsWithin, Reports, Stands};
 use crate::declarations::items;
 use crate::fault::{ParseError, Stop};
 use crate::rest::Rest;
-use gr_lang::syntax::Program;
+use gr_syntax::Program;
 use gr_text::token::{Token, TokenKind, Tokens};
 use std::alloc::Global;
 

@@ -11,7 +11,7 @@ ghost use Rattle.gr_parse.specs.Parsing.{Gives};
 
 use crate::fault::Stop;
 use crate::meaning::{atom_of, heap_of, is_sign, is_word, name_of, number_of, object_of, operator};
-use gr_lang::syntax::{BinOp, Expr, Name, Number, Place};
+use gr_syntax::{BinOp, Expr, Name, Number, Place};
 use gr_text::token::{Keyword, Sign, Token};
 use std::alloc::{AllocError, Global};
 use std::marker::Model;

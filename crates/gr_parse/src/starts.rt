@@ -10,7 +10,7 @@ use crate::expressions::expr;
 use crate::fault::Stop;
 use crate::lists::name;
 use crate::rest::Rest;
-use gr_lang::syntax::{Expr, HowText, Name, Stmt};
+use gr_syntax::{Expr, HowText, Name, Stmt};
 use gr_text::token::{Keyword, Sign};
 use std::alloc::Global;
 

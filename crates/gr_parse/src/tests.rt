@@ -1,7 +1,7 @@
 //! What the clauses leave to examples.
 use crate::fault::ParseError;
 use crate::program::parse;
-use gr_lang::syntax::{BinOp, Expr, Item, Right, Stmt};
+use gr_syntax::{BinOp, Expr, Item, Right, Stmt};
 use gr_text::tokens;
 use std::alloc::Global;
 use std::test::Fail;

@@ -5,7 +5,7 @@ use Rattle.std.specs.Str.{bytes_eq}
 use Rattle.std.specs.Option.{option_map, option_and_then}
 use Rattle.std.specs.FinMap as fin
 use Rattle.std.specs.FinSet as set
-use Rattle.gr_lang.specs.declared.syntax.Program.{Program}
+use Rattle.gr_syntax.specs.declared.syntax.Program.{Program}
 use Rattle.gr_lang.specs.declared.action.Action.{Action}
 use Rattle.gr_lang.specs.declared.action.Action.TheVariants as a
 use Rattle.gr_lang.specs.declared.action.Entry.{Entry}
@@ -16,8 +16,10 @@ use Rattle.gr_lang.specs.declared.action.Op.{Op}
 use Rattle.gr_lang.specs.declared.action.Reply.{Reply}
 use Rattle.gr_lang.specs.declared.action.TrapKind.{TrapKind}
 use Rattle.gr_lang.specs.declared.action.TrapKind.TheVariants as trap
-use Rattle.gr_lang.specs.Fields.{same_how, same_op, same_reply, same_trap}
-use Rattle.gr_lang.specs.Objects.{call, nothing}
+use Rattle.gr_lang.specs.Fields.{same_how, same_reply, same_trap}
+use Rattle.gr_lang.specs.Parts.{same_op}
+use Rattle.gr_lang.specs.Objects.{call}
+use Rattle.gr_lang.specs.Effects.{nothing}
 use Rattle.gr_lang.specs.States.{Mode, going, at_loop, ended, trapped, State, Task, Scope, Range, has_ended, is_going, is_at_loop, innermost, child, id_cmp, left}
 use Rattle.gr_lang.specs.Steps.{step, of_task, if_going, when, set_task, goes_on, has_core, is_new, call_step, spawn_step, finish_step, loop_step, begin_step, begin_at, begin_in, pass_step, pass_from, arrive_step, end_step, trap_step, over_step}
 use Rattle.gr_plain.specs.Counts.{change_of, unended_of, begins_in, ends_in}

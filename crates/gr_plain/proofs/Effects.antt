@@ -9,7 +9,7 @@ use Rattle.std.specs.declared.cmp.Ordering.TheVariants.{Less, Equal, Greater}
 use Rattle.std.specs.FinMap as fin
 use Rattle.std.specs.FinSet as set
 use Rattle.gr_lang.proofs.TaskIds.{ids_total}
-use Rattle.gr_lang.specs.declared.syntax.Program.{Program}
+use Rattle.gr_syntax.specs.declared.syntax.Program.{Program}
 use Rattle.gr_lang.specs.declared.action.Action.{Action}
 use Rattle.gr_lang.specs.declared.action.Action.TheVariants as a
 use Rattle.gr_lang.specs.declared.action.Entry.{Entry}
@@ -18,7 +18,8 @@ use Rattle.gr_lang.specs.declared.action.TaskId.{TaskId}
 use Rattle.gr_lang.specs.declared.action.How.{How}
 use Rattle.gr_lang.specs.declared.action.TrapKind.{TrapKind}
 use Rattle.gr_lang.specs.declared.action.TrapKind.TheVariants as trap
-use Rattle.gr_lang.specs.Objects.{call, nothing}
+use Rattle.gr_lang.specs.Objects.{call}
+use Rattle.gr_lang.specs.Effects.{nothing}
 use Rattle.gr_lang.specs.States.{Mode, going, at_loop, ended, trapped, State, Task, Scope, Range, has_ended, is_going, is_at_loop, innermost, child, id_cmp, left}
 use Rattle.gr_lang.specs.Steps.{step, of_task, if_going, when, set_task, goes_on, is_new, call_step, spawn_step, finish_step, loop_step, begin_step, begin_at, begin_in, pass_step, pass_from, arrive_step, end_step, trap_step, over_step}
 use Rattle.gr_valid.specs.Work.{works_in}

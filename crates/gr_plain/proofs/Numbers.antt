@@ -9,7 +9,7 @@ use Rattle.std.proofs.lemmas.Bool.Decides.{nat_tests}
 use Rattle.std.proofs.lemmas.List.{get_or_past}
 use Rattle.std.proofs.lemmas.Option.{slice_get_within}
 use Rattle.gr_lang.proofs.TaskIds.{ids_total}
-use Rattle.gr_lang.specs.declared.syntax.Program.{Program}
+use Rattle.gr_syntax.specs.declared.syntax.Program.{Program}
 use Rattle.gr_lang.specs.declared.action.Entry.{Entry}
 use Rattle.gr_lang.specs.declared.action.Entry.TheVariants as e
 use Rattle.gr_lang.specs.declared.action.TaskId.{TaskId}

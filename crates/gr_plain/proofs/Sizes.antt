@@ -11,19 +11,19 @@ use Rattle.gr_plain.specs.Sizes.{arrays_in}
 use Rattle.std.proofs.lemmas.Bool.Decides.{nat_tests}
 use Rattle.std.proofs.lemmas.Grind.{flat_map-append}
 use Rattle.std.proofs.lemmas.List.{length-replicate}
-use Rattle.gr_lang.specs.Accepted.{IsAccepted, heads_sites, head_sites, object_sites, uses_sites, faults, sites}
-use Rattle.gr_lang.specs.Conditions.{faults_at, heap_too_large, words_in}
-use Rattle.gr_lang.specs.Declarations.{Meaning, first_named}
-use Rattle.gr_lang.specs.Faults.{when}
+use Rattle.gr_accept.specs.Accepted.{IsAccepted, heads_sites, head_sites, object_sites, uses_sites, faults, sites}
+use Rattle.gr_accept.specs.Conditions.{faults_at, heap_too_large, words_in}
+use Rattle.gr_accept.specs.Declarations.{Meaning, first_named}
+use Rattle.gr_syntax.specs.Faults.{when}
 use Rattle.gr_lang.specs.Openings.{array_words, heap_words, input_of, objects_from, padded}
-use Rattle.gr_lang.specs.Sites.{Site, sizes, ends}
-use Rattle.gr_lang.specs.declared.refusal.Fault.{Fault}
-use Rattle.gr_lang.specs.declared.refusal.Kind.{Kind}
-use Rattle.gr_lang.specs.declared.syntax.Place.{Place}
-use Rattle.gr_lang.specs.declared.syntax.Item.{Item}
-use Rattle.gr_lang.specs.declared.syntax.Item.TheVariants as i
-use Rattle.gr_lang.specs.declared.syntax.Number.{Number}
-use Rattle.gr_lang.specs.declared.syntax.Program.{Program}
+use Rattle.gr_accept.specs.Sites.{Site, sizes, ends}
+use Rattle.gr_syntax.specs.declared.refusal.Fault.{Fault}
+use Rattle.gr_syntax.specs.declared.refusal.Kind.{Kind}
+use Rattle.gr_syntax.specs.declared.syntax.Place.{Place}
+use Rattle.gr_syntax.specs.declared.syntax.Item.{Item}
+use Rattle.gr_syntax.specs.declared.syntax.Item.TheVariants as i
+use Rattle.gr_syntax.specs.declared.syntax.Number.{Number}
+use Rattle.gr_syntax.specs.declared.syntax.Program.{Program}
 
 none_before : (xs ys : List Fault) → xs ++ ys ≡ [] → xs ≡ []
 none_before [] ys e = refl

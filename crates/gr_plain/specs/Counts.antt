@@ -5,7 +5,7 @@ use Rattle.std.specs.List.{count_by}
 use Rattle.std.specs.FinMap as fin
 use Rattle.gr_lang.specs.declared.action.Entry.{Entry}
 use Rattle.gr_lang.specs.declared.action.Entry.TheVariants as e
-use Rattle.gr_lang.specs.declared.syntax.Program.{Program}
+use Rattle.gr_syntax.specs.declared.syntax.Program.{Program}
 use Rattle.gr_lang.specs.States.{State, Task, innermost, id_cmp}
 use Rattle.gr_valid.specs.Valid.{IsValid}
 use Rattle.gr_valid.specs.Work.{has_index, works_in}

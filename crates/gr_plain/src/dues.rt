@@ -4,8 +4,8 @@ ghost use Rattle.std.specs.Str.{bytes_eq};
 ghost use Rattle.gr_lang.specs.Steps.{has_core as is_core};
 ghost use Rattle.gr_plain.specs.Held.{call_in as call_due, is_arrive as arrive_due, is_end as end_due, is_finish as finish_due, is_loop as loop_due, is_spawn as spawn_due, trap_in as trap_due};
 
-use gr_lang::action::{Action, How, Op, TrapKind};
-use gr_lang::lists::Words;
+use gr_lang::{Action, How, Op, TrapKind};
+use gr_lang::Words;
 
 /// Whether both have the same words.
 fn same_words(a: &Words, b: &Words) -> bool

@@ -2,7 +2,8 @@
 ghost use Rattle.std.specs.Prelude.{◌≡◌, ◌∷◌, ◌++◌, [], IfOk, IfSome, None, OnErr, OnOk, Some, length};
 ghost use Rattle.std.specs.FinMap as fin;
 ghost use Rattle.std.specs.Option.{option_map, option_and_then};
-ghost use Rattle.gr_lang.specs.Objects.{call, nothing};
+ghost use Rattle.gr_lang.specs.Objects.{call};
+ghost use Rattle.gr_lang.specs.Effects.{nothing};
 ghost use Rattle.gr_lang.specs.States.{at_loop, child as child_task, innermost, left as work_left, opening_state};
 ghost use Rattle.gr_lang.specs.Steps.{goes_on as gone_on, is_new as is_new_id, set_task};
 ghost use Rattle.gr_plain.specs.Held.{begin_args, due_begin, due_call, due_end, due_finish, due_loop, due_pass, due_spawn, due_trap, entry_due, is_blocked, loop_scope, stepped, with_state};
@@ -18,10 +19,10 @@ use crate::opening::open_memory;
 use crate::plain::StepError;
 use crate::scopes::{RangeRow, ScopeRow, begin};
 use crate::tasks::{Mode, Row, Tasks, no_reply};
-use gr_lang::accepted::Accepted;
-use gr_lang::action::{Action, Entry, How, Op, Reply, TaskId, TrapKind};
-use gr_lang::lists::Words;
-use gr_lang::syntax::Text;
+use gr_accept::Accepted;
+use gr_lang::{Action, Entry, How, Op, Reply, TaskId, TrapKind};
+use gr_lang::Words;
+use gr_syntax::Text;
 use gr_memory::memory::Memory;
 use gr_memory::parts::Keys;
 use gr_steps::table::Table;
@@ -49,7 +50,7 @@ impl<'a> Model for Machine<'a> {
     ghost use Rattle.std.specs.FinMap as fin;
     ghost use Rattle.std.specs.FinSet as set;
     ghost use Rattle.std.specs.Ordering.{nat_cmp};
-    ghost use Rattle.gr_lang.specs.contracts.syntax.Stmt as stmt;
+    ghost use Rattle.gr_syntax.specs.contracts.syntax.Stmt as stmt;
     ghost use Rattle.gr_lang.specs.States.{id_cmp, Task};
 
     ghost Value = { Held };

@@ -5,7 +5,7 @@ ghost use Rattle.gr_plain.specs.Sizes.{arrays_in};
 ghost use Rattle.gr_steps.specs.TableView.{IsHeap};
 ghost use Rattle.gr_memory.specs.ThingView.{things_of};
 
-use gr_lang::syntax::{Item, Number, Program, Text};
+use gr_syntax::{Item, Number, Program, Text};
 use gr_memory::memory::Memory;
 use gr_memory::things::Thing;
 use gr_steps::table::HeapRange;

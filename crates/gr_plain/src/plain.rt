@@ -6,8 +6,8 @@ ghost use Rattle.gr_plain.specs.Held.{entry_due, is_blocked as is_blocked_by, st
 
 use crate::counts::{make, number_in};
 use crate::machine::Machine;
-use gr_lang::accepted::Accepted;
-use gr_lang::action::{Entry, TaskId};
+use gr_accept::Accepted;
+use gr_lang::{Entry, TaskId};
 use gr_valid::laws::{states_stay_valid, work_is_direct};
 use std::alloc::{AllocError, Global};
 use std::marker::Model;
@@ -54,7 +54,7 @@ impl<'a> Model for Plain<'a> {
     ghost use Rattle.std.specs.FinMap as fin;
     ghost use Rattle.std.specs.FinSet as set;
     ghost use Rattle.std.specs.Ordering.{nat_cmp};
-    ghost use Rattle.gr_lang.specs.contracts.syntax.Stmt as stmt;
+    ghost use Rattle.gr_syntax.specs.contracts.syntax.Stmt as stmt;
     ghost use Rattle.gr_lang.specs.States.{id_cmp, Task};
 
     ghost Value = { Held };

@@ -1,12 +1,12 @@
 // What no clause says: that the calls succeed where there is memory, on a worked run.
 ghost use Rattle.std.specs.Prelude.{◌≡◌, IfOk};
-ghost use Rattle.gr_lang.specs.AcceptedRows.{prints};
+ghost use Rattle.gr_accept.specs.AcceptedRows.{prints};
 
 use crate::plain::{Plain, StepError};
-use gr_lang::accepted::Accepted;
-use gr_lang::action::{Entry, Op, Reply, TaskId};
-use gr_lang::rows::accepted_rows;
-use gr_lang::syntax::{Expr, Item, Name, Number, Place, Program, Stmt, Text};
+use gr_accept::Accepted;
+use gr_lang::{Entry, Op, Reply, TaskId};
+use gr_accept::accepted_rows;
+use gr_syntax::{Expr, Item, Name, Number, Place, Program, Stmt, Text};
 use sqlite_items::Items;
 use std::alloc::{AllocError, Global};
 use std::test::Fail;

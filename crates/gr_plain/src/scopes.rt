@@ -3,8 +3,8 @@ ghost use Rattle.std.specs.Prelude.{◌≡◌, ◌++◌, IfOk, OnOk};
 ghost use Rattle.gr_lang.specs.States.{range_left};
 ghost use Rattle.gr_plain.specs.ScopeView.{args_of, begin_scope, begins_in, begun_at};
 
-use gr_lang::action::TaskId;
-use gr_lang::lists::Words;
+use gr_lang::TaskId;
+use gr_lang::Words;
 use gr_memory::parts::Keys;
 use std::alloc::{AllocError, Global};
 use std::marker::Model;

@@ -5,12 +5,12 @@ ghost use Rattle.std.specs.FinMap as fin;
 ghost use Rattle.std.specs.Option.{option_copied};
 ghost use Rattle.gr_lang.specs.States.{at_loop, child, id_cmp, innermost, is_at_loop as at_loop_mode, is_going as going_mode};
 ghost use Rattle.gr_lang.specs.Steps.{goes_on as gone_on};
-ghost use Rattle.gr_lang.specs.Objects.{nothing};
+ghost use Rattle.gr_lang.specs.Effects.{nothing};
 ghost use Rattle.gr_plain.specs.StackView.{top_of, under_top};
 ghost use Rattle.gr_plain.specs.TaskView.{mode_of};
 
 use crate::word_stack::WordStack;
-use gr_lang::action::{Action, Reply, TaskId};
+use gr_lang::{Action, Reply, TaskId};
 use gr_steps::running::Running;
 use gr_steps::table::Table;
 use std::alloc::{AllocError, Global};
@@ -40,7 +40,7 @@ pub struct Row<'a> {
 impl<'a> Model for Row<'a> {
     ghost use Rattle.gr_lang.specs.States.{Task};
     ghost use Rattle.std.specs.Coded.{codes};
-    ghost use Rattle.gr_lang.specs.contracts.syntax.Stmt as stmt;
+    ghost use Rattle.gr_syntax.specs.contracts.syntax.Stmt as stmt;
 
     ghost Value = { Task };
 
@@ -177,7 +177,7 @@ impl<'a> Model for Tasks<'a> {
     ghost use Rattle.std.specs.FinMap as fin;
     ghost use Rattle.gr_lang.specs.States.{Task, id_cmp};
     ghost use Rattle.std.specs.Coded.{codes};
-    ghost use Rattle.gr_lang.specs.contracts.syntax.Stmt as stmt;
+    ghost use Rattle.gr_syntax.specs.contracts.syntax.Stmt as stmt;
 
     ghost Value = { fin.FinMap id_cmp Task };
 

@@ -12,7 +12,7 @@ use Rattle.gr_text.specs.declared.token.Sign.{Sign}
 use Rattle.gr_text.specs.declared.token.Sign.TheVariants as s
 use Rattle.gr_text.specs.declared.token.TokenKind.TheVariants as kinds
 use Rattle.gr_text.specs.Spelling.{keyword_bytes, sign_bytes}
-use Rattle.gr_lang.specs.Names.{is_letter, is_digit, is_word}
+use Rattle.gr_syntax.specs.Names.{is_letter, is_digit, is_word}
 use Rattle.gr_text.specs.Text.{Text, HasHead, IsLongest, IsToken}
 use Rattle.gr_text.specs.Front.{single_sign, double_sign, or_else, front_sign}
 use Rattle.gr_text.proofs.Found.{number_found, keyword_found, name_found}

@@ -1,19 +1,19 @@
 -- Induction on expressions and on statements.
 use Rattle.std.proofs.Common.{Bool, List, [], ◌∷◌, map, sym, subst}
-use Rattle.gr_lang.specs.declared.syntax.Name.{Name}
-use Rattle.gr_lang.specs.declared.syntax.Number.{Number}
-use Rattle.gr_lang.specs.declared.syntax.BinOp.{BinOp}
-use Rattle.gr_lang.specs.declared.syntax.Expr.{Expr, roll-Expr}
-use Rattle.gr_lang.specs.declared.syntax.Expr.TheVariants as e
-use Rattle.gr_lang.specs.declared.syntax.Expr.TheOpen.{Expr-F}
-use Rattle.gr_lang.specs.declared.syntax.Expr.TheFolds.{ind-Expr, map-Expr}
-use Rattle.gr_lang.specs.declared.syntax.CallText.{CallText}
-use Rattle.gr_lang.specs.declared.syntax.Right.{Right}
-use Rattle.gr_lang.specs.declared.syntax.HowText.{HowText}
-use Rattle.gr_lang.specs.declared.syntax.Stmt.{Stmt, roll-Stmt}
-use Rattle.gr_lang.specs.declared.syntax.Stmt.TheVariants as st
-use Rattle.gr_lang.specs.declared.syntax.Stmt.TheOpen.{Stmt-F}
-use Rattle.gr_lang.specs.declared.syntax.Stmt.TheFolds.{ind-Stmt, map-Stmt}
+use Rattle.gr_syntax.specs.declared.syntax.Name.{Name}
+use Rattle.gr_syntax.specs.declared.syntax.Number.{Number}
+use Rattle.gr_syntax.specs.declared.syntax.BinOp.{BinOp}
+use Rattle.gr_syntax.specs.declared.syntax.Expr.{Expr, roll-Expr}
+use Rattle.gr_syntax.specs.declared.syntax.Expr.TheVariants as e
+use Rattle.gr_syntax.specs.declared.syntax.Expr.TheOpen.{Expr-F}
+use Rattle.gr_syntax.specs.declared.syntax.Expr.TheFolds.{ind-Expr, map-Expr}
+use Rattle.gr_syntax.specs.declared.syntax.CallText.{CallText}
+use Rattle.gr_syntax.specs.declared.syntax.Right.{Right}
+use Rattle.gr_syntax.specs.declared.syntax.HowText.{HowText}
+use Rattle.gr_syntax.specs.declared.syntax.Stmt.{Stmt, roll-Stmt}
+use Rattle.gr_syntax.specs.declared.syntax.Stmt.TheVariants as st
+use Rattle.gr_syntax.specs.declared.syntax.Stmt.TheOpen.{Stmt-F}
+use Rattle.gr_syntax.specs.declared.syntax.Stmt.TheFolds.{ind-Stmt, map-Stmt}
 
 -- The cases of an induction on expressions.
 pub record ExprCases (P : Expr → Type 0) : Type 0 where

@@ -1,15 +1,15 @@
 -- The tokens that are laid out for statements and blocks spell them, and each spelling has them.
 use Rattle.std.proofs.Common.{◌≡◌, ℕ, suc, ◌+◌, Bool, true, false, List, [], ◌∷◌, ◌++◌, map, replicate, refl, sym, ap, subst, ◌∙◌, append_assoc}
 use Rattle.std.proofs.lemmas.List.{map-append, append-nil}
-use Rattle.gr_lang.specs.declared.syntax.Name.{Name}
-use Rattle.gr_lang.specs.declared.syntax.Expr.{Expr}
-use Rattle.gr_lang.specs.declared.syntax.CallText.{CallText}
-use Rattle.gr_lang.specs.declared.syntax.Right.{Right}
-use Rattle.gr_lang.specs.declared.syntax.Right.TheVariants as right
-use Rattle.gr_lang.specs.declared.syntax.HowText.{HowText}
-use Rattle.gr_lang.specs.declared.syntax.HowText.TheVariants as how
-use Rattle.gr_lang.specs.declared.syntax.Stmt.{Stmt}
-use Rattle.gr_lang.specs.declared.syntax.Stmt.TheVariants as st
+use Rattle.gr_syntax.specs.declared.syntax.Name.{Name}
+use Rattle.gr_syntax.specs.declared.syntax.Expr.{Expr}
+use Rattle.gr_syntax.specs.declared.syntax.CallText.{CallText}
+use Rattle.gr_syntax.specs.declared.syntax.Right.{Right}
+use Rattle.gr_syntax.specs.declared.syntax.Right.TheVariants as right
+use Rattle.gr_syntax.specs.declared.syntax.HowText.{HowText}
+use Rattle.gr_syntax.specs.declared.syntax.HowText.TheVariants as how
+use Rattle.gr_syntax.specs.declared.syntax.Stmt.{Stmt}
+use Rattle.gr_syntax.specs.declared.syntax.Stmt.TheVariants as st
 use Rattle.gr_text.specs.declared.token.Keyword.TheVariants as k
 use Rattle.gr_text.specs.declared.token.Sign.TheVariants as s
 use Rattle.gr_parse.specs.Tok.{Tok}

@@ -5,16 +5,16 @@ use Rattle.std.specs.Fmt.{decimal}
 use Rattle.std.specs.Prelude.{codes, if◌then◌else◌}
 use Rattle.std.specs.Str.{bytes_eq}
 use Rattle.std.proofs.lemmas.Slice.Eq.{bytes_eq-Decides}
-use Rattle.gr_lang.specs.declared.syntax.Name.{Name}
-use Rattle.gr_lang.specs.declared.syntax.Number.{Number}
-use Rattle.gr_lang.specs.declared.syntax.BinOp.{BinOp}
-use Rattle.gr_lang.specs.declared.syntax.Expr.{Expr}
-use Rattle.gr_lang.specs.declared.syntax.Expr.TheVariants as e
-use Rattle.gr_lang.specs.declared.syntax.CallText.{CallText}
-use Rattle.gr_lang.specs.declared.syntax.Right.{Right}
-use Rattle.gr_lang.specs.declared.syntax.HowText.{HowText}
-use Rattle.gr_lang.specs.declared.syntax.Stmt.{Stmt}
-use Rattle.gr_lang.specs.declared.syntax.Stmt.TheVariants as st
+use Rattle.gr_syntax.specs.declared.syntax.Name.{Name}
+use Rattle.gr_syntax.specs.declared.syntax.Number.{Number}
+use Rattle.gr_syntax.specs.declared.syntax.BinOp.{BinOp}
+use Rattle.gr_syntax.specs.declared.syntax.Expr.{Expr}
+use Rattle.gr_syntax.specs.declared.syntax.Expr.TheVariants as e
+use Rattle.gr_syntax.specs.declared.syntax.CallText.{CallText}
+use Rattle.gr_syntax.specs.declared.syntax.Right.{Right}
+use Rattle.gr_syntax.specs.declared.syntax.HowText.{HowText}
+use Rattle.gr_syntax.specs.declared.syntax.Stmt.{Stmt}
+use Rattle.gr_syntax.specs.declared.syntax.Stmt.TheVariants as st
 use Rattle.gr_text.specs.declared.token.Sign.TheVariants as s
 use Rattle.gr_text.specs.Spelling.{sign_bytes}
 use Rattle.gr_parse.specs.Tok.{Tok, sign_of, level_of}

@@ -5,9 +5,9 @@ use Rattle.std.specs.Fmt.{decimal}
 use Rattle.std.proofs.lemmas.Bool.Decides.{nat_tests}
 use Rattle.std.proofs.lemmas.List.{append-nil, length-append, drop-drop}
 use Rattle.std.proofs.Math.Seq.{take-append_seam, drop-append_seam}
-use Rattle.gr_lang.specs.declared.syntax.Place.{Place}
-use Rattle.gr_lang.specs.declared.syntax.Name.{Name}
-use Rattle.gr_lang.specs.declared.syntax.Number.{Number}
+use Rattle.gr_syntax.specs.declared.syntax.Place.{Place}
+use Rattle.gr_syntax.specs.declared.syntax.Name.{Name}
+use Rattle.gr_syntax.specs.declared.syntax.Number.{Number}
 use Rattle.gr_text.specs.declared.token.Keyword.{Keyword}
 use Rattle.gr_text.specs.declared.token.Keyword.TheVariants as k
 use Rattle.gr_text.specs.declared.token.Sign.{Sign}
@@ -18,7 +18,7 @@ use Rattle.gr_text.specs.declared.token.TokenKind.TheVariants as kinds
 use Rattle.gr_text.specs.Places.{place_of}
 use Rattle.gr_text.specs.Spelling.{keyword_bytes, sign_bytes}
 use Rattle.std.specs.List.{list_all}
-use Rattle.gr_lang.specs.Names.{is_letter, is_digit, is_word}
+use Rattle.gr_syntax.specs.Names.{is_letter, is_digit, is_word}
 use Rattle.gr_text.specs.Text.{Text, HasHead, IsLongest, IsToken, ReadsFrom, token_at}
 use Rattle.gr_text.specs.Text as text
 use Rattle.gr_text.proofs.Longest.{IsOther, sign_front}

@@ -1,12 +1,12 @@
 -- Which tokens spell a program, and what it is that a text's tokens do so with none to spare.
 use Rattle.std.specs.Prelude.{◌≡◌, ◌≢◌, ℕ, ◌<◌, ◌≤◌, ◌^◌, ◌+◌, if◌then◌else◌, List, [], ◌∷◌, length, map, Ok}
-use Rattle.gr_lang.specs.declared.syntax.Item.{Item}
-use Rattle.gr_lang.specs.declared.syntax.Program.{Program}
+use Rattle.gr_syntax.specs.declared.syntax.Item.{Item}
+use Rattle.gr_syntax.specs.declared.syntax.Program.{Program}
 use Rattle.gr_text.specs.declared.token.Keyword.TheVariants as k
 use Rattle.gr_text.specs.declared.token.Sign.TheVariants as s
 use Rattle.gr_text.specs.declared.token.Token.{Token}
 use Rattle.gr_text.specs.declared.token.TokenKind.TheVariants as kinds
-use Rattle.gr_lang.specs.Names.{most_name}
+use Rattle.gr_syntax.specs.Names.{most_name}
 use Rattle.gr_text.specs.Text.{IsToken, Reads}
 use Rattle.gr_parse.specs.Tok.{Tok, is_sign, toks}
 use Rattle.gr_parse.specs.Operands.{Toks}

@@ -6,7 +6,7 @@ ghost use Rattle.gr_print.specs.Pieces.{bytes_of};
 use crate::margin::Margin;
 use crate::parts::{write_names, write_numbers};
 use crate::statements::write_block;
-use gr_lang::syntax::{Item, Name, Number, Stmt};
+use gr_syntax::{Item, Name, Number, Stmt};
 use std::alloc::AllocError;
 use std::fmt::Write;
 

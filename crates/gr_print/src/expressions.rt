@@ -4,7 +4,7 @@ ghost use Rattle.gr_parse.specs.Tok as grammar;
 ghost use Rattle.gr_print.specs.Layout as spec;
 ghost use Rattle.gr_print.specs.Pieces.{bytes_of};
 
-use gr_lang::syntax::{BinOp, Expr};
+use gr_syntax::{BinOp, Expr};
 use gr_text::token::Sign;
 use std::alloc::AllocError;
 use std::fmt::Write;

@@ -1,7 +1,7 @@
 //! Which programs the contract of printing speaks of, and which texts it compares with.
 
 ghost use Rattle.std.specs.Prelude.{◌≡◌, ℕ, List, Ok};
-ghost use Rattle.gr_lang.specs.declared.syntax.Program.{Program};
+ghost use Rattle.gr_syntax.specs.declared.syntax.Program.{Program};
 ghost use Rattle.gr_text.specs.Text.{Reads};
 ghost use Rattle.gr_text.specs.declared.token.Token.{Token};
 ghost use Rattle.gr_parse.specs.Tok.{toks};

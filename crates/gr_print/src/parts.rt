@@ -4,7 +4,7 @@ ghost use Rattle.gr_print.specs.Layout as spec;
 ghost use Rattle.gr_print.specs.Pieces.{bytes_of};
 
 use crate::expressions::write_expr;
-use gr_lang::syntax::{CallText, Expr, Name, Number};
+use gr_syntax::{CallText, Expr, Name, Number};
 use std::alloc::AllocError;
 use std::fmt::Write;
 

@@ -5,7 +5,7 @@ ghost use Rattle.gr_print.specs.Printed.{IsSpelled, IsLeast};
 
 use crate::declarations::write_item;
 use crate::margin::Margin;
-use gr_lang::syntax::Program;
+use gr_syntax::Program;
 use std::alloc::{AllocError, Global};
 
 /// The text of a program: one item or statement a line, blocks indented by two blanks, one blank around binary signs.

@@ -6,7 +6,7 @@ ghost use Rattle.gr_print.specs.Pieces.{bytes_of};
 use crate::expressions::write_expr;
 use crate::margin::Margin;
 use crate::parts::{write_args, write_call, write_names};
-use gr_lang::syntax::{Expr, HowText, Name, Right, Stmt};
+use gr_syntax::{Expr, HowText, Name, Right, Stmt};
 use std::alloc::AllocError;
 use std::fmt::Write;
 

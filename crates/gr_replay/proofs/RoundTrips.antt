@@ -4,7 +4,7 @@ use Rattle.std.specs.Option.{option_and_then, option_map}
 use Rattle.std.specs.Str.{bytes_eq}
 use Rattle.std.specs.FinMap as fin
 use Rattle.std.proofs.lemmas.List.Elements.{All-head, All-tail}
-use Rattle.gr_lang.specs.declared.syntax.Program.{Program}
+use Rattle.gr_syntax.specs.declared.syntax.Program.{Program}
 use Rattle.gr_lang.specs.declared.action.Action.{Action}
 use Rattle.gr_lang.specs.declared.action.Action.TheVariants as a
 use Rattle.gr_lang.specs.declared.action.Entry.{Entry}
@@ -13,20 +13,23 @@ use Rattle.gr_lang.specs.declared.action.Op.{Op}
 use Rattle.gr_lang.specs.declared.action.Op.TheVariants as ops
 use Rattle.gr_lang.specs.declared.action.Reply.{Reply}
 use Rattle.gr_lang.specs.declared.action.TaskId.{TaskId}
-use Rattle.gr_lang.specs.declared.operation.Operation.{Operation}
-use Rattle.gr_lang.specs.declared.operation.Operation.TheVariants as o
-use Rattle.gr_lang.specs.Fields.{same_op, same_reply}
+use Rattle.gr_accept.specs.declared.operation.Operation.{Operation}
+use Rattle.gr_accept.specs.declared.operation.Operation.TheVariants as o
+use Rattle.gr_lang.specs.Fields.{same_reply}
+use Rattle.gr_lang.specs.Parts.{same_op}
 use Rattle.gr_lang.specs.Histories.{after}
-use Rattle.gr_lang.specs.Names.{has}
-use Rattle.gr_lang.specs.Objects.{Object, Objects, array, keys, pairs, line, call, heap_number, on_word_at, insert_in, remove_in, has_in, put_in, erase_in, push_in, alloc_at, start_for}
-use Rattle.gr_lang.specs.Openings.{TaskText, object_names, tasks_of}
+use Rattle.gr_syntax.specs.Names.{has}
+use Rattle.gr_lang.specs.Objects.{Object, Objects, array, keys, pairs, line, call, on_word_at, insert_in, remove_in, has_in, put_in, erase_in, push_in, alloc_at, start_for}
+use Rattle.gr_syntax.specs.declared.limits.TheConstants.{HEAP}
+use Rattle.gr_syntax.specs.Items.{TaskText, object_names, tasks_of}
 use Rattle.gr_lang.specs.States.{State, Task, is_going}
 use Rattle.gr_lang.specs.Steps.{step, call_step, called, if_going, when}
 use Rattle.gr_hist.specs.Grammar.{HasNames}
-use Rattle.gr_lang.specs.Names.{is_name}
+use Rattle.gr_syntax.specs.Names.{is_name}
 use Rattle.gr_hist.specs.Names.{is_object_name}
 use Rattle.gr_hist.specs.Naming.{IsNamable, call_on, name_at, named, named_call, names_of, object_name, reply_words}
-use Rattle.gr_replay.specs.Entries.{call_at, entry_in, object_named, reply_of, task_named}
+use Rattle.gr_syntax.specs.Items.{object_named, task_named}
+use Rattle.gr_replay.specs.Entries.{call_at, entry_in, reply_of}
 use Rattle.gr_replay.specs.Judged.{Names}
 use Rattle.gr_replay.proofs.Numberings.{bytes_eq_comm, task_place}
 use Rattle.gr_replay.proofs.Uniques.{IsOnce}
@@ -177,11 +180,11 @@ module _ (p : Program) (once : IsOnce (object_names p.items)) (tasks : IsOnce (m
 
   -- The name of an object's number has that number.
   object_back : (k : ℕ) → is_object_name (object_name (names_of p) k) ≡ true → object_named p (object_name (names_of p) k) ≡ Some k
-  object_back k h = by (k == heap_number) refl h
+  object_back k h = by (k == HEAP) refl h
     where
-      by : (b : Bool) → k == heap_number ≡ b → is_object_name (if b then codes "heap" else name_at (object_names p.items) k) ≡ true
+      by : (b : Bool) → k == HEAP ≡ b → is_object_name (if b then codes "heap" else name_at (object_names p.items) k) ≡ true
           → object_named p (if b then codes "heap" else name_at (object_names p.items) k) ≡ Some k
-      by true is_heap named_so = ap (λ (n : ℕ). Some n) (sym (eqb-true k heap_number is_heap))
+      by true is_heap named_so = ap (λ (n : ℕ). Some n) (sym (eqb-true k HEAP is_heap))
       by false is_heap named_so = object_found k (slice_get (object_names p.items) k) refl named_so
 
   task_found : (k : ℕ) (o : Option (List ℕ)) → slice_get (map (λ (t : TaskText). t.name) (tasks_of p.items)) k ≡ o → is_name (unwrap_or o []) ≡ true → task_named p (unwrap_or o []) ≡ Some k

@@ -5,19 +5,19 @@ use Rattle.std.specs.List.{cons_option}
 use Rattle.std.specs.Option.{option_and_then, option_map}
 use Rattle.std.specs.Str.{bytes_eq}
 use Rattle.std.proofs.lemmas.Slice.Eq.{bytes_eq-Decides}
-use Rattle.gr_lang.specs.declared.syntax.Item.{Item}
-use Rattle.gr_lang.specs.declared.syntax.Item.TheVariants as i
-use Rattle.gr_lang.specs.declared.syntax.Place.{Place}
-use Rattle.gr_lang.specs.declared.syntax.Program.{Program}
-use Rattle.gr_lang.specs.declared.operation.Declared.{Declared}
-use Rattle.gr_lang.specs.declared.operation.Declared.TheVariants as d
-use Rattle.gr_lang.specs.declared.refusal.Kind.TheVariants as k
-use Rattle.gr_lang.specs.Accepted.{IsAccepted, head_sites, heads_sites, uses_sites}
-use Rattle.gr_lang.specs.Conditions.{faults_at}
-use Rattle.gr_lang.specs.Declarations.{Declaration, Meaning, declaration, first_named, first_of}
-use Rattle.gr_lang.specs.Faults.{when}
-use Rattle.gr_lang.specs.Openings.{TaskText, object_names, tasks_of}
-use Rattle.gr_lang.specs.Sites.{Site, declares, ends, object, sizes, task}
+use Rattle.gr_syntax.specs.declared.syntax.Item.{Item}
+use Rattle.gr_syntax.specs.declared.syntax.Item.TheVariants as i
+use Rattle.gr_syntax.specs.declared.syntax.Place.{Place}
+use Rattle.gr_syntax.specs.declared.syntax.Program.{Program}
+use Rattle.gr_accept.specs.declared.operation.Declared.{Declared}
+use Rattle.gr_accept.specs.declared.operation.Declared.TheVariants as d
+use Rattle.gr_syntax.specs.declared.refusal.Kind.TheVariants as k
+use Rattle.gr_accept.specs.Accepted.{IsAccepted, head_sites, heads_sites, uses_sites}
+use Rattle.gr_accept.specs.Conditions.{faults_at}
+use Rattle.gr_accept.specs.Declarations.{Declaration, Meaning, declaration, first_named, first_of}
+use Rattle.gr_syntax.specs.Faults.{when}
+use Rattle.gr_syntax.specs.Items.{TaskText, object_names, tasks_of}
+use Rattle.gr_accept.specs.Sites.{Site, declares, ends, object, sizes, task}
 use Rattle.gr_replay.proofs.Positions.{position_hit, position_miss}
 
 -- Each text is the first of its kind.

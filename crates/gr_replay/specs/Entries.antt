@@ -2,24 +2,25 @@
 use Rattle.std.specs.Prelude.{ℕ, ◌==◌, Bool, true, false, ◌&&◌, if◌then◌else◌, List, [], ◌∷◌, length, Option, Some, None, is_some, unwrap_or, position, codes}
 use Rattle.std.specs.Option.{option_map, option_and_then}
 use Rattle.std.specs.Str.{bytes_eq}
-use Rattle.gr_lang.specs.declared.syntax.Program.{Program}
+use Rattle.gr_syntax.specs.declared.syntax.Program.{Program}
 use Rattle.gr_lang.specs.declared.action.Entry.{Entry}
 use Rattle.gr_lang.specs.declared.action.Entry.TheVariants as e
 use Rattle.gr_lang.specs.declared.action.Op.TheVariants as o
 use Rattle.gr_lang.specs.declared.action.Reply.{Reply}
-use Rattle.gr_lang.specs.declared.operation.Operation.{Operation}
-use Rattle.gr_lang.specs.declared.operation.Operation.TheVariants as n
+use Rattle.gr_accept.specs.declared.operation.Operation.{Operation}
+use Rattle.gr_accept.specs.declared.operation.Operation.TheVariants as n
 use Rattle.gr_lang.specs.declared.action.TaskId.{TaskId}
-use Rattle.gr_lang.specs.Operations.{argument_count, result_count, takes_reducer}
-use Rattle.gr_lang.specs.Objects.{heap_number, reply, nothing}
-use Rattle.gr_lang.specs.Openings.{object_names, tasks_of}
-use Rattle.gr_lang.specs.Next.{op_of}
+use Rattle.gr_accept.specs.Operations.{argument_count, result_count, takes_reducer}
+use Rattle.gr_syntax.specs.declared.limits.TheConstants.{HEAP}
+use Rattle.gr_lang.specs.Effects.{reply, nothing}
+use Rattle.gr_syntax.specs.Items.{object_names, tasks_of}
+use Rattle.gr_lang.specs.Parts.{op_of}
 use Rattle.gr_hist.specs.declared.text.NamedEntry.{NamedEntry}
 use Rattle.gr_hist.specs.declared.text.NamedEntry.TheVariants as line
 
 -- The number of the object of that name, where the program has it; the heap has its own.
 abbrev pub object_named : Program → List ℕ → Option ℕ
-object_named p name = if bytes_eq name (codes "heap") then Some heap_number else position (bytes_eq name) (object_names p.items)
+object_named p name = if bytes_eq name (codes "heap") then Some HEAP else position (bytes_eq name) (object_names p.items)
 
 -- The number of the task of that name, where the program has it.
 abbrev pub task_named : Program → List ℕ → Option ℕ
@@ -42,8 +43,8 @@ reply_of (a ∷ b ∷ more) = reply a b
 
 -- An operation that only the heap has names no other object.
 abbrev pub is_at : Operation → ℕ → Bool
-is_at n.Alloc object = object == heap_number
-is_at n.Free object = object == heap_number
+is_at n.Alloc object = object == HEAP
+is_at n.Free object = object == HEAP
 is_at _ object = true
 
 -- The call of that object, where the operation takes and gives such words there.

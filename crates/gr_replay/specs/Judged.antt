@@ -1,7 +1,7 @@
 -- What is said of a history text: it is legal, and complete or not, or its first line that is no step has a number, counted from 1.
 use Rattle.std.specs.Prelude.{◌≡◌, ℕ, ◌+◌, Bool, List, ◌∷◌, ◌++◌, length, map, Some, None}
 use Rattle.std.specs.Option.{option_and_then}
-use Rattle.gr_lang.specs.declared.syntax.Program.{Program}
+use Rattle.gr_syntax.specs.declared.syntax.Program.{Program}
 use Rattle.gr_lang.specs.declared.action.Entry.{Entry}
 use Rattle.gr_lang.specs.States.{State}
 use Rattle.gr_lang.specs.Steps.{step}

@@ -1,10 +1,10 @@
 -- Laws of what is said of history texts.
 use Rattle.std.specs.Prelude.{◌≡◌, ℕ, false, List, map, Some, codes}
-use Rattle.gr_lang.specs.declared.syntax.Program.{Program}
+use Rattle.gr_syntax.specs.declared.syntax.Program.{Program}
 use Rattle.gr_lang.specs.declared.action.Entry.{Entry}
-use Rattle.gr_lang.specs.Accepted.{IsAccepted}
-use Rattle.gr_lang.specs.Names.{has}
-use Rattle.gr_lang.specs.Openings.{object_names}
+use Rattle.gr_accept.specs.Accepted.{IsAccepted}
+use Rattle.gr_syntax.specs.Names.{has}
+use Rattle.gr_syntax.specs.Items.{object_names}
 use Rattle.gr_lang.specs.States.{State}
 use Rattle.gr_lang.specs.Histories.{final}
 use Rattle.gr_hist.specs.declared.text.NamedEntry.{NamedEntry}

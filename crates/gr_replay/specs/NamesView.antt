@@ -5,7 +5,7 @@ use Rattle.std.specs.Str.{bytes_eq}
 use Rattle.std.specs.declared.hash.BuildHasherDefault.{BuildHasherDefault}
 use Rattle.std.specs.declared.hash.FoldHasher.{FoldHasher}
 use Rattle.std.specs.Borrow.{Bor}
-use Rattle.gr_lang.specs.Openings.{object_names, tasks_of}
+use Rattle.gr_syntax.specs.Items.{object_names, tasks_of}
 use Rattle.gr_replay.specs.declared.names.Names.TheInside.{Inside}
 
 -- A table of numbers by name.

@@ -5,11 +5,11 @@ ghost use Rattle.gr_replay.specs.Entries as spec;
 
 use crate::names::Names;
 use gr_hist::text::NamedEntry;
-use gr_lang::action::{Entry, How, Op, Reply, TaskId};
-use gr_lang::calls::{op_of, word_at};
-use gr_lang::lists::Words;
-use gr_lang::operation::{HEAP, Operation};
-use gr_lang::syntax::Text;
+use gr_lang::{Entry, How, Op, Reply, TaskId};
+use gr_lang::{op_of, word_at};
+use gr_lang::Words;
+use gr_accept::Operation;
+use gr_syntax::Text;
 use std::alloc::AllocError;
 
 /// Whether so many numbers, reply words and reducers are what the operation takes and gives.

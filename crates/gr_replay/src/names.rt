@@ -1,12 +1,12 @@
 //! The numbers of a program's objects and tasks by their names, found once as a replay opens.
 ghost use Rattle.std.specs.Prelude.{◌≡◌, IfOk, OnOk, List, ℕ, Some, None, map, if◌then◌else◌};
 ghost use Rattle.std.specs.Str.{bytes_eq};
-ghost use Rattle.gr_lang.specs.Openings.{tasks_of};
+ghost use Rattle.gr_syntax.specs.Items.{tasks_of};
 ghost use Rattle.gr_replay.specs.Entries as entries;
 ghost use Rattle.gr_replay.specs.NamesView.{IsNumbered, either, number_of};
 
-use gr_lang::operation::HEAP;
-use gr_lang::syntax::{Item, Program, Text};
+use gr_syntax::HEAP;
+use gr_syntax::{Item, Program, Text};
 use gr_steps::listing::object_names_of;
 use std::alloc::{AllocError, Global};
 use std::collections::HashMap;
@@ -22,9 +22,9 @@ pub struct Names<'a> {
 }
 
 impl<'a> Model for Names<'a> {
-    ghost use Rattle.gr_lang.specs.declared.syntax.Program.{Program};
+    ghost use Rattle.gr_syntax.specs.declared.syntax.Program.{Program};
     ghost use Rattle.std.specs.Coded.{codes};
-    ghost use Rattle.gr_lang.specs.contracts.syntax.Stmt as stmt;
+    ghost use Rattle.gr_syntax.specs.contracts.syntax.Stmt as stmt;
 
     ghost Value = { Program };
 

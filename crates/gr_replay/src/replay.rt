@@ -6,7 +6,7 @@ ghost use Rattle.gr_replay.specs.Advances.{advanced, error_at};
 use crate::entries::entry_in;
 use crate::names::Names;
 use gr_hist::text::{HistoryText, NamedEntry};
-use gr_lang::accepted::Accepted;
+use gr_accept::Accepted;
 use gr_plain::plain::{Plain, StepError};
 use std::alloc::{AllocError, Global};
 use thiserror::Error;

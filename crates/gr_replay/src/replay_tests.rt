@@ -1,16 +1,16 @@
 // What no clause says: that a replay succeeds where there is memory, on worked rows.
 ghost use Rattle.std.specs.Prelude.{◌≡◌, IfOk};
-ghost use Rattle.gr_lang.specs.AcceptedRows.{prints};
+ghost use Rattle.gr_accept.specs.AcceptedRows.{prints};
 
 use crate::division::divide;
 use crate::replay::{ReplayError, Replayed, replay};
 use gr_hist::text::{HistoryText, NamedEntries, NamedEntry};
-use gr_lang::accepted::Accepted;
-use gr_lang::action::{How, TaskId};
-use gr_lang::lists::Words;
-use gr_lang::operation::Operation;
-use gr_lang::rows::accepted_rows;
-use gr_lang::syntax::{Expr, Item, Name, Number, Place, Program, Stmt, Text};
+use gr_accept::Accepted;
+use gr_lang::{How, TaskId};
+use gr_lang::Words;
+use gr_accept::Operation;
+use gr_accept::accepted_rows;
+use gr_syntax::{Expr, Item, Name, Number, Place, Program, Stmt, Text};
 use sqlite_items::Items;
 use std::alloc::{AllocError, Global};
 use std::test::Fail;

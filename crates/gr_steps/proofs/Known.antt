@@ -6,8 +6,9 @@ use Rattle.std.specs.Option.{option_map}
 use Rattle.std.specs.Str.{bytes_eq}
 use Rattle.std.proofs.lemmas.Iterator.Adapters.{position_from-zero}
 use Rattle.std.proofs.lemmas.Option.{slice_get-map}
-use Rattle.gr_lang.specs.declared.syntax.Program.{Program}
-use Rattle.gr_lang.specs.Openings.{TaskText, tasks_of, target_of}
+use Rattle.gr_syntax.specs.declared.syntax.Program.{Program}
+use Rattle.gr_syntax.specs.Items.{TaskText, tasks_of}
+use Rattle.gr_lang.specs.Openings.{target_of}
 use Rattle.gr_lang.specs.Next.{start, start_at}
 use Rattle.gr_steps.specs.TableView.{Known, known_of, knowns_of, number_from, started}
 

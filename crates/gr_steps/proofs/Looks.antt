@@ -1,10 +1,10 @@
 -- What stands first, where it is a print or a loop.
 use Rattle.std.proofs.Common.{◌≡◌, ℕ, Option, List, [], ◌∷◌, refl, ap}
 use Rattle.gr_lang.proofs.Opens.{out-Print, out-Forall}
-use Rattle.gr_lang.specs.declared.syntax.Program.{Program}
-use Rattle.gr_lang.specs.declared.syntax.Expr.{Expr}
-use Rattle.gr_lang.specs.declared.syntax.Name.{Name}
-use Rattle.gr_lang.specs.declared.syntax.Stmt.TheVariants as s
+use Rattle.gr_syntax.specs.declared.syntax.Program.{Program}
+use Rattle.gr_syntax.specs.declared.syntax.Expr.{Expr}
+use Rattle.gr_syntax.specs.declared.syntax.Name.{Name}
+use Rattle.gr_syntax.specs.declared.syntax.Stmt.TheVariants as s
 use Rattle.gr_lang.specs.declared.action.Action.{Action}
 use Rattle.gr_lang.specs.Expressions.{values}
 use Rattle.gr_lang.specs.Next.{Running, Todo, run, look, acts, acted, loop_action, print_action}

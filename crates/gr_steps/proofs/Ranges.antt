@@ -3,7 +3,7 @@ use Rattle.std.proofs.Common.{◌≡◌, ℕ, List, [], ◌∷◌, Option, Some,
 use Rattle.std.specs.Option.{option_map, option_and_then}
 use Rattle.gr_lang.specs.Locals.{Locals}
 use Rattle.gr_lang.specs.Expressions.{value, values}
-use Rattle.gr_lang.specs.declared.syntax.Expr.{Expr}
+use Rattle.gr_syntax.specs.declared.syntax.Expr.{Expr}
 use Rattle.gr_steps.specs.Ranges.{range_words, ranged}
 
 joined : (a b c : Option ℕ) (rest : Option (List ℕ))

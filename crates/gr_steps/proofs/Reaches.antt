@@ -4,12 +4,13 @@ use Rattle.std.proofs.Common.{◌≡◌, ℕ, ◌+◌, arith, Bool, true, false,
 use Rattle.std.specs.Prelude.{nat_lt, cond, ◌==◌}
 use Rattle.std.specs.Option.{option_map}
 use Rattle.std.proofs.lemmas.Option.{slice_get-map}
-use Rattle.gr_lang.specs.declared.syntax.Item.{Item}
-use Rattle.gr_lang.specs.declared.syntax.Item.TheVariants as i
-use Rattle.gr_lang.specs.Objects.{Object, array, keys, pairs, line, address, address_in, heap_address, heap_number}
+use Rattle.gr_syntax.specs.declared.syntax.Item.{Item}
+use Rattle.gr_syntax.specs.declared.syntax.Item.TheVariants as i
+use Rattle.gr_lang.specs.Objects.{Object, array, keys, pairs, line, address, address_in, heap_address}
+use Rattle.gr_syntax.specs.declared.limits.TheConstants.{HEAP}
 use Rattle.gr_lang.specs.Openings.{objects_from, opening, heap_of}
 use Rattle.gr_steps.specs.TableView.{reaches_of, within}
-use Rattle.gr_lang.specs.declared.syntax.Program.{Program}
+use Rattle.gr_syntax.specs.declared.syntax.Program.{Program}
 
 abbrev reach_of : Object → ℕ
 reach_of (array from count) = count
@@ -45,10 +46,10 @@ reach_at items object place =
     found (slice_get (objects_from 0 items) object) place
     ∙ ap (λ (o : Option ℕ). within o place) (sym (slice_get-map reach_of (objects_from 0 items) object) ∙ ap (λ xs. slice_get xs object) (reaches_is items 0))
 
-pub in_array : (p : Program) (object place : ℕ) → (object == heap_number) ≡ false → is_some (address (opening p) object place) ≡ within (slice_get (reaches_of p.items) object) place
+pub in_array : (p : Program) (object place : ℕ) → (object == HEAP) ≡ false → is_some (address (opening p) object place) ≡ within (slice_get (reaches_of p.items) object) place
 unfolding opening
 in_array p object place e = rw e (reach_at p.items object place)
 
-pub in_heap : (p : Program) (object place : ℕ) → (object == heap_number) ≡ true → is_some (address (opening p) object place) ≡ is_some (heap_address (heap_of p) place)
+pub in_heap : (p : Program) (object place : ℕ) → (object == HEAP) ≡ true → is_some (address (opening p) object place) ≡ is_some (heap_address (heap_of p) place)
 unfolding opening
 in_heap p object place e = rw e refl

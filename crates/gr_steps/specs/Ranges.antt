@@ -3,7 +3,7 @@ use Rattle.std.specs.Prelude.{ℕ, List, ◌∷◌, Option, Some, None}
 use Rattle.std.specs.Option.{option_map, option_and_then}
 use Rattle.gr_lang.specs.Locals.{Locals}
 use Rattle.gr_lang.specs.Expressions.{value}
-use Rattle.gr_lang.specs.declared.syntax.Expr.{Expr}
+use Rattle.gr_syntax.specs.declared.syntax.Expr.{Expr}
 
 -- None where one divides by 0.
 abbrev pub range_words : Locals → Expr → Expr → Expr → Option (ℕ × ℕ × ℕ)

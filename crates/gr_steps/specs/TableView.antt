@@ -4,12 +4,13 @@ use Rattle.std.specs.Str.{bytes_eq}
 use Rattle.gr_steps.specs.declared.table.TaskRow.{TaskRow}
 use Rattle.gr_steps.specs.declared.table.HeapRange.{HeapRange}
 use Rattle.gr_steps.specs.declared.table.Table.TheInside.{Inside}
-use Rattle.gr_lang.specs.declared.syntax.Item.{Item}
-use Rattle.gr_lang.specs.declared.syntax.Item.TheVariants as i
-use Rattle.gr_lang.specs.declared.syntax.Number.{Number}
-use Rattle.gr_lang.specs.declared.syntax.Program.{Program}
-use Rattle.gr_lang.specs.declared.syntax.Stmt.{Stmt}
-use Rattle.gr_lang.specs.Openings.{TaskText, object_names, tasks_of, heap_of}
+use Rattle.gr_syntax.specs.declared.syntax.Item.{Item}
+use Rattle.gr_syntax.specs.declared.syntax.Item.TheVariants as i
+use Rattle.gr_syntax.specs.declared.syntax.Number.{Number}
+use Rattle.gr_syntax.specs.declared.syntax.Program.{Program}
+use Rattle.gr_syntax.specs.declared.syntax.Stmt.{Stmt}
+use Rattle.gr_syntax.specs.Items.{TaskText, object_names, tasks_of}
+use Rattle.gr_lang.specs.Openings.{heap_of}
 use Rattle.gr_lang.specs.Next.{Running, given, lets_of, runs}
 
 -- A task of the text, with the names of its locals.

@@ -8,10 +8,10 @@ ghost use Rattle.gr_steps.specs.Ranges.{range_words, ranged};
 use crate::expressions::{value_of, values_of};
 use crate::locals::LocalWords;
 use crate::table::Table;
-use gr_lang::action::{Action, How, Op, TrapKind};
-use gr_lang::calls::op_of;
-use gr_lang::operation::{Operation, operation_of, reducer_of};
-use gr_lang::syntax::{CallText, Expr, Exprs, HowText, Name};
+use gr_lang::{Action, How, Op, TrapKind};
+use gr_lang::op_of;
+use gr_accept::{Operation, operation_of, reducer_of};
+use gr_syntax::{CallText, Expr, Exprs, HowText, Name};
 use std::alloc::{AllocError, Global};
 
 /// The trap of a zero divisor.

@@ -3,8 +3,8 @@ ghost use Rattle.std.specs.Prelude.{◌≡◌, IfOk};
 ghost use Rattle.gr_lang.specs.Expressions.{number_of, combine as combine_of, value, values};
 
 use crate::locals::LocalWords;
-use gr_lang::lists::Words;
-use gr_lang::syntax::{BinOp, Expr, Exprs};
+use gr_lang::Words;
+use gr_syntax::{BinOp, Expr, Exprs};
 use std::alloc::{AllocError, Global};
 
 fn number(holds: bool) -> u64

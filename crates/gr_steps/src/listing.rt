@@ -1,11 +1,11 @@
 //! The objects and tasks of a program's items, listed in the order of their numbers.
 ghost use Rattle.std.specs.Prelude.{◌≡◌, ◌++◌, IfOk, OnOk, map};
 ghost use Rattle.gr_lang.specs.Next.{lets, lets_of};
-ghost use Rattle.gr_lang.specs.Openings.{object_names, tasks_of, texts};
+ghost use Rattle.gr_syntax.specs.Items.{object_names, tasks_of, texts};
 ghost use Rattle.gr_steps.specs.TableView.{knowns_of, reaches_of, row_of};
 
 use crate::table::TaskRow;
-use gr_lang::syntax::{Item, Names, Stmt, Text};
+use gr_syntax::{Item, Names, Stmt, Text};
 use std::alloc::{AllocError, Global};
 
 /// The names of the objects other than the heap.

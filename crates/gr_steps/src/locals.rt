@@ -3,7 +3,7 @@ ghost use Rattle.std.specs.Prelude.{◌≡◌, IfOk, map};
 ghost use Rattle.gr_lang.specs.Locals.{word_of, set_word};
 ghost use Rattle.gr_lang.specs.Next.{given, set_all};
 
-use gr_lang::syntax::{Names, Text};
+use gr_syntax::{Names, Text};
 use std::alloc::{AllocError, Global};
 use std::marker::Model;
 

@@ -9,8 +9,8 @@ use crate::actions::{call_action, loop_action, print_action, range_of, spawn_act
 use crate::expressions::value_of;
 use crate::locals::LocalWords;
 use crate::table::{Table, TaskRow};
-use gr_lang::action::{Action, Reply, TrapKind};
-use gr_lang::syntax::{Block, Expr, Names, Right, Stmt};
+use gr_lang::{Action, Reply, TrapKind};
+use gr_syntax::{Block, Expr, Names, Right, Stmt};
 use std::alloc::{AllocError, Global};
 use std::marker::Model;
 
@@ -52,7 +52,7 @@ pub struct Running<'a> {
 impl<'a> Model for Running<'a> {
     ghost use Rattle.gr_lang.specs.Next.{Running as State};
     ghost use Rattle.std.specs.Coded.{codes};
-    ghost use Rattle.gr_lang.specs.contracts.syntax.Stmt as stmt;
+    ghost use Rattle.gr_syntax.specs.contracts.syntax.Stmt as stmt;
 
     ghost Value = { State };
 

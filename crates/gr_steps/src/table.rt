@@ -1,13 +1,14 @@
 //! The tables of a program, made once as a run opens: its objects and tasks by name and by number.
 ghost use Rattle.std.specs.Prelude.{◌≡◌, IfOk, is_some, map, slice_get};
 ghost use Rattle.gr_lang.specs.Objects.{address, heap_address};
-ghost use Rattle.gr_lang.specs.Openings.{heap_of, object_of, opening, target_of, tasks_of};
+ghost use Rattle.gr_syntax.specs.Items.{tasks_of};
+ghost use Rattle.gr_lang.specs.Openings.{heap_of, object_of, opening, target_of};
 ghost use Rattle.gr_steps.specs.TableView.{IsHeap, knowns_of, number_from, reaches_of, row_of, within};
 ghost use Rattle.std.specs.Option.{option_map};
 
 use crate::listing::{object_names_of, reaches_in, task_rows};
-use gr_lang::operation::HEAP;
-use gr_lang::syntax::{Block, Program, Text};
+use gr_syntax::HEAP;
+use gr_syntax::{Block, Program, Text};
 use std::alloc::{AllocError, Global};
 use std::marker::Model;
 
@@ -38,9 +39,9 @@ pub struct Table<'a> {
 }
 
 impl<'a> Model for Table<'a> {
-    ghost use Rattle.gr_lang.specs.declared.syntax.Program.{Program};
+    ghost use Rattle.gr_syntax.specs.declared.syntax.Program.{Program};
     ghost use Rattle.std.specs.Coded.{codes};
-    ghost use Rattle.gr_lang.specs.contracts.syntax.Stmt as stmt;
+    ghost use Rattle.gr_syntax.specs.contracts.syntax.Stmt as stmt;
 
     ghost Value = { Program };
 

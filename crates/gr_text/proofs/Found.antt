@@ -7,7 +7,7 @@ use Rattle.std.proofs.lemmas.List.Sums.{prefix_len-le-length}
 use Rattle.gr_text.specs.declared.token.Keyword.{Keyword}
 use Rattle.gr_text.specs.declared.token.TokenKind.TheVariants as kinds
 use Rattle.gr_text.specs.Spelling.{keyword_bytes}
-use Rattle.gr_lang.specs.Names.{is_letter, is_digit, is_word}
+use Rattle.gr_syntax.specs.Names.{is_letter, is_digit, is_word}
 use Rattle.gr_text.specs.Text.{Text, HasHead, IsLongest, is_white, blank_len, not_newline}
 use Rattle.gr_text.proofs.Longest.{number_front, keyword_front, name_front}
 use Rattle.gr_text.proofs.Runs.{all_pass}

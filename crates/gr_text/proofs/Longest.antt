@@ -11,7 +11,7 @@ use Rattle.gr_text.specs.declared.token.Sign.{Sign}
 use Rattle.gr_text.specs.declared.token.TokenKind.{TokenKind}
 use Rattle.gr_text.specs.declared.token.TokenKind.TheVariants as kinds
 use Rattle.gr_text.specs.Spelling.{keyword_bytes, sign_bytes}
-use Rattle.gr_lang.specs.Names.{is_letter, is_digit, is_word, most_name}
+use Rattle.gr_syntax.specs.Names.{is_letter, is_digit, is_word, most_name}
 use Rattle.gr_text.specs.Text.{Text, HasHead, IsLongest, IsToken, BeginsNoToken, is_white, blank_len, not_newline}
 use Rattle.gr_text.specs.Front.{front_sign}
 use Rattle.gr_text.proofs.Runs.{and_first, and_both, all_pass, run_more, most}

@@ -2,7 +2,7 @@
 use Rattle.std.proofs.Common.{◌≡◌, ℕ, ◌+◌, ◌≤◌, ◌<◌, Bool, true, false, cond, eqb, List, [], ◌∷◌, ◌++◌, length, take, drop, Ok, Err, refl, sym, ap, subst, ◌∙◌, append_assoc, arith}
 use Rattle.std.proofs.lemmas.List.{length-take, length-drop, drop-drop}
 use Rattle.std.proofs.Math.Seq.{take-add}
-use Rattle.gr_lang.specs.declared.syntax.Place.{Place}
+use Rattle.gr_syntax.specs.declared.syntax.Place.{Place}
 use Rattle.gr_text.specs.declared.fault.TextError.TheVariants as faults
 use Rattle.gr_text.specs.declared.front.Front.TheVariants as fronts
 use Rattle.gr_text.specs.declared.token.Token.{Token}

@@ -8,7 +8,7 @@ use Rattle.gr_text.specs.declared.token.Sign.{Sign}
 use Rattle.gr_text.specs.declared.token.Sign.TheVariants.{LeftParen, RightParen, LeftBrace, RightBrace, LeftBracket, RightBracket, Semicolon, Comma, Dot, DotDot, Assign, EqualEqual, BangEqual, Less, LessEqual, Greater, GreaterEqual, Plus, Minus, Star, Slash, Percent, Ampersand, Bar, Caret, Bang}
 use Rattle.gr_text.specs.Spelling.{sign_bytes}
 use Rattle.gr_text.specs.Front.{single_sign, double_sign, front_sign, or_else}
-use Rattle.gr_lang.specs.Names.{is_letter, is_digit}
+use Rattle.gr_syntax.specs.Names.{is_letter, is_digit}
 use Rattle.gr_text.specs.Text.{Text, is_white}
 
 length-takes : (n : ℕ) (text : Text) → n ≤ length text → length (take n text) ≡ n

@@ -6,7 +6,7 @@ use Rattle.gr_text.specs.declared.front.Front.TheVariants as fronts
 use Rattle.gr_text.specs.declared.token.TokenKind.{TokenKind}
 use Rattle.gr_text.specs.declared.token.TokenKind.TheVariants as kinds
 use Rattle.gr_text.specs.Front.{IsFront}
-use Rattle.gr_lang.specs.Names.{most_name}
+use Rattle.gr_syntax.specs.Names.{most_name}
 use Rattle.gr_text.specs.Text.{Text, Outcome, ReadsFrom, IsLongest, Fits, with_front, token_at, blank_len}
 use Rattle.gr_text.proofs.Longest.{same_longest, not_blank}
 

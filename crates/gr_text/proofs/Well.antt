@@ -7,7 +7,7 @@ use Rattle.gr_text.specs.declared.token.Token.{Token}
 use Rattle.gr_text.specs.declared.token.TokenKind.{TokenKind}
 use Rattle.gr_text.specs.declared.token.TokenKind.TheVariants as kinds
 use Rattle.std.specs.List.{list_all}
-use Rattle.gr_lang.specs.Names.{is_letter, is_digit, is_word}
+use Rattle.gr_syntax.specs.Names.{is_letter, is_digit, is_word}
 use Rattle.gr_text.specs.Text.{Text, Outcome, ReadsFrom, IsToken, IsTokenOf, IsLongest, Fits, AreTokens, IsRising, with_front, token_at, blank_len}
 use Rattle.gr_text.proofs.Found.{blank_fits}
 use Rattle.gr_text.proofs.Longest.{some_token}

@@ -7,7 +7,7 @@ use Rattle.gr_text.specs.declared.token.Keyword.{Keyword}
 use Rattle.gr_text.specs.declared.token.Keyword.TheVariants.{Array, Set, Map, Vector, Heap, Input, Show, Task, Let, If, Else, While, Print, Spawn, At, Offer, Finish, Forall, Grain}
 use Rattle.gr_text.specs.Spelling.{keyword_bytes}
 use Rattle.std.specs.List.{list_all}
-use Rattle.gr_lang.specs.Names.{is_letter, is_word, most_name}
+use Rattle.gr_syntax.specs.Names.{is_letter, is_word, most_name}
 use Rattle.gr_text.specs.Text.{Text}
 
 -- The place of a keyword in the list of all.

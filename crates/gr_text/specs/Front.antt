@@ -5,7 +5,7 @@ use Rattle.gr_text.specs.declared.front.Front.TheVariants as fronts
 use Rattle.gr_text.specs.declared.token.TokenKind.TheVariants as kinds
 use Rattle.gr_text.specs.declared.token.Sign.{Sign}
 use Rattle.gr_text.specs.declared.token.Sign.TheVariants.{LeftParen, RightParen, LeftBrace, RightBrace, LeftBracket, RightBracket, Semicolon, Comma, Dot, DotDot, Assign, EqualEqual, BangEqual, Less, LessEqual, Greater, GreaterEqual, Plus, Minus, Star, Slash, Percent, Ampersand, Bar, Caret, Bang}
-use Rattle.gr_lang.specs.Names.{most_name}
+use Rattle.gr_syntax.specs.Names.{most_name}
 use Rattle.gr_text.specs.Text.{Text, IsLongest, Fits, BeginsNoToken, blank_len}
 
 -- The sign of one byte.

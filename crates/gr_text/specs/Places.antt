@@ -1,6 +1,6 @@
 -- The line and column of a place in a text: a newline goes to the first column of the next line, and every other byte one column on.
 use Rattle.std.specs.Prelude.{ℕ, ◌+◌, ◌==◌, if◌then◌else◌, List, [], ◌∷◌, take}
-use Rattle.gr_lang.specs.declared.syntax.Place.{Place}
+use Rattle.gr_syntax.specs.declared.syntax.Place.{Place}
 
 abbrev pub first_place : Place
 first_place = record { line = 1; column = 1 }

@@ -3,7 +3,7 @@ ghost use Rattle.std.specs.Prelude.{◌≡◌, ℕ, ◌+◌, ◌*◌, ◌≤◌,
 ghost use Rattle.std.specs.List.{list_all, prefix_len};
 ghost use Rattle.std.specs.Char.{digit_value};
 ghost use Rattle.std.specs.Str.Parse.{digits_value};
-ghost use Rattle.gr_lang.specs.Names.{is_word, is_digit, is_letter};
+ghost use Rattle.gr_syntax.specs.Names.{is_word, is_digit, is_letter};
 ghost use Rattle.gr_text.specs.Text.{is_white, not_newline, blank_len, HasHead};
 ghost use Rattle.gr_text.specs.Front.{IsFront, single_sign, double_sign, front_sign};
 

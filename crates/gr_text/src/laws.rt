@@ -1,7 +1,7 @@
 //! Laws of tokens. The functions do nothing: what they tell is their contracts.
 
 ghost use Rattle.std.specs.Prelude.{◌≡◌, length, true};
-ghost use Rattle.gr_lang.specs.Names.{is_name};
+ghost use Rattle.gr_syntax.specs.Names.{is_name};
 ghost use Rattle.gr_text.specs.Text.{Fits, IsToken, Text};
 ghost use Rattle.gr_text.specs.declared.token.TokenKind.TheVariants as kind;
 

@@ -7,7 +7,7 @@ use crate::fault::TextError;
 use crate::front::{Front, classify, past};
 use crate::placing::advance;
 use crate::token::{Token, TokenKind, Tokens};
-use gr_lang::syntax::Place;
+use gr_syntax::Place;
 use std::alloc::Global;
 
 /// The tokens of a text, the last of which is its end, or its first fault.

@@ -2,7 +2,7 @@
 ghost use Rattle.std.specs.Prelude.{◌≡◌, ℕ, ◌+◌, ◌<◌, ◌≤◌, ◌^◌, length, take};
 ghost use Rattle.gr_text.specs.Places.{after_byte, after_bytes, place_of};
 
-use gr_lang::syntax::Place;
+use gr_syntax::Place;
 
 /// The line and the column of this place of the text, which is in bytes from its start and at most at its end. Both
 /// count from 1, and columns count bytes.

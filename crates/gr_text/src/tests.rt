@@ -3,7 +3,7 @@ use crate::fault::TextError;
 use crate::lexing::tokens;
 use crate::placing::place;
 use crate::token::{Keyword, Sign, Token, TokenKind};
-use gr_lang::syntax::Place;
+use gr_syntax::Place;
 use std::test::Fail;
 
 fn token(kind: TokenKind, from: u64, to: u64, line: u64, column: u64) -> Token {

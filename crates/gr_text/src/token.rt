@@ -1,7 +1,7 @@
 //! What a token is.
 ghost use Rattle.std.specs.Prelude.{◌≡◌, [], ◌∷◌, ◌++◌, length, OnOk, OnErr};
 
-use gr_lang::syntax::Place;
+use gr_syntax::Place;
 use std::alloc::{AllocError, Global};
 use std::marker::Model;
 

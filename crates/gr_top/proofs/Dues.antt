@@ -3,11 +3,11 @@ use Rattle.std.proofs.Common.{◌≡◌, ◌≢◌, ℕ, ◌<◌, ◌≤◌, ◌
 use Rattle.std.specs.Prelude.{IfSome, ◌++◌, [], String, if◌then◌else◌}
 use Rattle.std.specs.declared.alloc.Global.{Global}
 use Rattle.std.specs.Io.KnownBytes.{Appends}
-use Rattle.gr_lang.specs.declared.syntax.Program.{Program}
-use Rattle.gr_lang.specs.declared.refusal.Kind.{Kind}
-use Rattle.gr_lang.specs.declared.refusal.Fault.{Fault}
+use Rattle.gr_syntax.specs.declared.syntax.Program.{Program}
+use Rattle.gr_syntax.specs.declared.refusal.Kind.{Kind}
+use Rattle.gr_syntax.specs.declared.refusal.Fault.{Fault}
 use Rattle.gr_lang.specs.declared.action.Entry.{Entry}
-use Rattle.gr_lang.specs.Faults.{fault}
+use Rattle.gr_syntax.specs.Faults.{fault}
 use Rattle.gr_lang.specs.Histories.{legal, complete}
 use Rattle.gr_cli.specs.declared.settings.Options.{Options}
 use Rattle.gr_cli.specs.declared.settings.Command.{Command}

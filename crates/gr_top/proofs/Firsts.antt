@@ -1,8 +1,8 @@
 -- What the first item of a name tells, where one item is looked at.
 use Rattle.std.proofs.Common.{◌≡◌, ℕ, List, Bool, true, false, Option, Some, None, refl, if◌then◌else◌}
 use Rattle.std.specs.Str.{bytes_eq}
-use Rattle.gr_lang.specs.declared.operation.Declared.{Declared}
-use Rattle.gr_lang.specs.Declarations.{Declaration, first_of}
+use Rattle.gr_accept.specs.declared.operation.Declared.{Declared}
+use Rattle.gr_accept.specs.Declarations.{Declaration, first_of}
 
 by_test : (b : Bool) (x : Declared) (rest : Option Declared) → (if b then Some x else None) ≡ None → (if b then Some x else rest) ≡ rest
 by_test true x rest h = cc

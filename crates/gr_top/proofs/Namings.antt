@@ -6,12 +6,12 @@ use Rattle.std.proofs.lemmas.List.{length-drop, length-take-le}
 use Rattle.std.proofs.lemmas.List.Elements.{All-nil, All-cons, All-head, All-tail}
 use Rattle.std.proofs.lemmas.Slice.Eq.{bytes_eq-Decides}
 use Rattle.gr_meets.specs.Lists.{Repeated}
-use Rattle.gr_lang.specs.declared.syntax.Item.{Item}
-use Rattle.gr_lang.specs.declared.syntax.Place.{Place}
-use Rattle.gr_lang.specs.declared.syntax.Program.{Program}
-use Rattle.gr_lang.specs.Accepted.{IsAccepted}
-use Rattle.gr_lang.specs.Names.{has, is_name}
-use Rattle.gr_lang.specs.Openings.{TaskText, object_names, tasks_of}
+use Rattle.gr_syntax.specs.declared.syntax.Item.{Item}
+use Rattle.gr_syntax.specs.declared.syntax.Place.{Place}
+use Rattle.gr_syntax.specs.declared.syntax.Program.{Program}
+use Rattle.gr_accept.specs.Accepted.{IsAccepted}
+use Rattle.gr_syntax.specs.Names.{has, is_name}
+use Rattle.gr_syntax.specs.Items.{TaskText, object_names, tasks_of}
 use Rattle.gr_text.specs.Text.{Fits, IsToken, IsTokenOf, AreTokens, Reads, token_at}
 use Rattle.gr_text.specs.declared.token.Keyword.{Keyword}
 use Rattle.gr_text.specs.declared.token.Keyword.TheVariants as k

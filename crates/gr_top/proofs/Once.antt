@@ -1,12 +1,12 @@
 -- A text reads as one thing: one accepted program, or one first fault.
 use Rattle.std.proofs.Common.{◌≡◌, ◌≢◌, ℕ, List, Ok, Err, refl, sym, ap, subst}
-use Rattle.gr_lang.specs.declared.syntax.Program.{Program}
-use Rattle.gr_lang.specs.declared.syntax.Place.{Place}
-use Rattle.gr_lang.specs.declared.refusal.Kind.{Kind}
-use Rattle.gr_lang.specs.declared.refusal.Kind.TheVariants as k
-use Rattle.gr_lang.specs.declared.refusal.Fault.{Fault}
-use Rattle.gr_lang.specs.Faults.{fault, IsFirst}
-use Rattle.gr_lang.specs.Accepted.{faults, IsAccepted}
+use Rattle.gr_syntax.specs.declared.syntax.Program.{Program}
+use Rattle.gr_syntax.specs.declared.syntax.Place.{Place}
+use Rattle.gr_syntax.specs.declared.refusal.Kind.{Kind}
+use Rattle.gr_syntax.specs.declared.refusal.Kind.TheVariants as k
+use Rattle.gr_syntax.specs.declared.refusal.Fault.{Fault}
+use Rattle.gr_syntax.specs.Faults.{fault, IsFirst}
+use Rattle.gr_accept.specs.Accepted.{faults, IsAccepted}
 use Rattle.gr_text.specs.declared.token.Token.{Token}
 use Rattle.gr_text.specs.declared.fault.TextError.TheVariants as text_errors
 use Rattle.gr_text.specs.Text.{Outcome, Reads, AreTokens}

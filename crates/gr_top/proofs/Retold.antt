@@ -3,9 +3,9 @@ use Rattle.std.proofs.Common.{◌≡◌, ◌∙◌, ℕ, List, Bool, true, false
 use Rattle.std.specs.Prelude.{IfSome, String}
 use Rattle.std.specs.declared.alloc.Global.{Global}
 use Rattle.std.specs.Option.{option_map_or}
-use Rattle.gr_lang.specs.declared.syntax.Program.{Program}
+use Rattle.gr_syntax.specs.declared.syntax.Program.{Program}
 use Rattle.gr_lang.specs.declared.action.Entry.{Entry}
-use Rattle.gr_lang.specs.Accepted.{IsAccepted}
+use Rattle.gr_accept.specs.Accepted.{IsAccepted}
 use Rattle.gr_lang.specs.Histories.{final, legal, complete}
 use Rattle.gr_lang.specs.States.{State, opening_state}
 use Rattle.gr_cli.specs.Options.{IsWithinLimits}

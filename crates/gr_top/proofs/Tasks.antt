@@ -1,14 +1,14 @@
 -- The next action of a straight task, and how it goes on.
 use Rattle.std.proofs.Common.{◌≡◌, ℕ, zero, suc, ◌<◌, ◌≤◌, List, [], ◌∷◌, Bool, true, false, ◌&&◌, Option, Some, None, refl, arith, length}
 use Rattle.std.specs.Option.{option_map, option_map_or}
-use Rattle.gr_lang.specs.declared.syntax.Stmt.{Stmt, out-Stmt}
-use Rattle.gr_lang.specs.declared.syntax.Stmt.TheOpen.{Stmt-F}
-use Rattle.gr_lang.specs.declared.syntax.Name.{Name}
-use Rattle.gr_lang.specs.declared.syntax.Right.{Right}
-use Rattle.gr_lang.specs.declared.syntax.Right.TheVariants as r
-use Rattle.gr_lang.specs.declared.syntax.CallText.{CallText}
-use Rattle.gr_lang.specs.declared.syntax.Program.{Program}
-use Rattle.gr_lang.specs.declared.operation.Operation.{Operation}
+use Rattle.gr_syntax.specs.declared.syntax.Stmt.{Stmt, out-Stmt}
+use Rattle.gr_syntax.specs.declared.syntax.Stmt.TheOpen.{Stmt-F}
+use Rattle.gr_syntax.specs.declared.syntax.Name.{Name}
+use Rattle.gr_syntax.specs.declared.syntax.Right.{Right}
+use Rattle.gr_syntax.specs.declared.syntax.Right.TheVariants as r
+use Rattle.gr_syntax.specs.declared.syntax.CallText.{CallText}
+use Rattle.gr_syntax.specs.declared.syntax.Program.{Program}
+use Rattle.gr_accept.specs.declared.operation.Operation.{Operation}
 use Rattle.gr_lang.specs.declared.action.Action.TheVariants as a
 use Rattle.gr_lang.specs.declared.action.Op.{Op}
 use Rattle.gr_lang.specs.declared.action.Op.TheVariants as o
@@ -16,9 +16,10 @@ use Rattle.gr_lang.specs.declared.action.TrapKind.TheVariants as trap
 use Rattle.gr_lang.specs.declared.action.Reply.{Reply}
 use Rattle.gr_lang.specs.Locals.{Locals}
 use Rattle.gr_lang.specs.Expressions.{value, values}
-use Rattle.gr_lang.specs.Operations.{operation_of}
+use Rattle.gr_accept.specs.Operations.{operation_of}
 use Rattle.gr_lang.specs.Openings.{opening, object_of}
-use Rattle.gr_lang.specs.Next.{Todo, Running, run, arrive, Look, pure, acts, look, look_at, look_set, look_todo, next, at_limit, after_look, Stands, go_on, go_on_todo, go_on_at, acted, named_action, if_fits, fits, op_of, call_action, reducer_number, set_all}
+use Rattle.gr_lang.specs.Next.{Todo, Running, run, arrive, Look, pure, acts, look, look_at, look_set, look_todo, next, at_limit, after_look, Stands, go_on, go_on_todo, go_on_at, acted, named_action, if_fits, fits, call_action, reducer_number, set_all}
+use Rattle.gr_lang.specs.Parts.{op_of}
 use Rattle.gr_top.specs.Alone.{straight_at, are_straight, Does}
 
 abbrev Looked : Running → Look → Type 0

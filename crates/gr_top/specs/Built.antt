@@ -2,24 +2,24 @@
 use Rattle.std.specs.Prelude.{ℕ, Bool, true, false, ◌&&◌, if◌then◌else◌, nat_lt, List, ◌∷◌, Option, Some, None, codes}
 use Rattle.std.specs.Str.{bytes_eq}
 use Rattle.std.specs.List.{list_all}
-use Rattle.gr_lang.specs.declared.syntax.Item.{Item}
-use Rattle.gr_lang.specs.declared.syntax.Item.TheVariants as i
-use Rattle.gr_lang.specs.declared.syntax.Stmt.{Stmt, out-Stmt}
-use Rattle.gr_lang.specs.declared.syntax.Stmt.TheOpen.{Stmt-F}
-use Rattle.gr_lang.specs.declared.syntax.Expr.{Expr, out-Expr, fold-Expr}
-use Rattle.gr_lang.specs.declared.syntax.Expr.TheOpen.{Expr-F}
-use Rattle.gr_lang.specs.declared.syntax.BinOp.{BinOp}
-use Rattle.gr_lang.specs.declared.syntax.BinOp.TheVariants as sign
-use Rattle.gr_lang.specs.declared.syntax.Right.{Right}
-use Rattle.gr_lang.specs.declared.syntax.Right.TheVariants as r
-use Rattle.gr_lang.specs.declared.syntax.CallText.{CallText}
-use Rattle.gr_lang.specs.declared.syntax.Program.{Program}
-use Rattle.gr_lang.specs.declared.operation.Operation.{Operation}
-use Rattle.gr_lang.specs.declared.operation.Operation.TheVariants as n
-use Rattle.gr_lang.specs.declared.operation.Declared.{Declared}
-use Rattle.gr_lang.specs.declared.operation.Declared.TheVariants as d
-use Rattle.gr_lang.specs.Declarations.{declaration, first_of, first_named}
-use Rattle.gr_lang.specs.Operations.{operation_of}
+use Rattle.gr_syntax.specs.declared.syntax.Item.{Item}
+use Rattle.gr_syntax.specs.declared.syntax.Item.TheVariants as i
+use Rattle.gr_syntax.specs.declared.syntax.Stmt.{Stmt, out-Stmt}
+use Rattle.gr_syntax.specs.declared.syntax.Stmt.TheOpen.{Stmt-F}
+use Rattle.gr_syntax.specs.declared.syntax.Expr.{Expr, out-Expr, fold-Expr}
+use Rattle.gr_syntax.specs.declared.syntax.Expr.TheOpen.{Expr-F}
+use Rattle.gr_syntax.specs.declared.syntax.BinOp.{BinOp}
+use Rattle.gr_syntax.specs.declared.syntax.BinOp.TheVariants as sign
+use Rattle.gr_syntax.specs.declared.syntax.Right.{Right}
+use Rattle.gr_syntax.specs.declared.syntax.Right.TheVariants as r
+use Rattle.gr_syntax.specs.declared.syntax.CallText.{CallText}
+use Rattle.gr_syntax.specs.declared.syntax.Program.{Program}
+use Rattle.gr_accept.specs.declared.operation.Operation.{Operation}
+use Rattle.gr_accept.specs.declared.operation.Operation.TheVariants as n
+use Rattle.gr_accept.specs.declared.operation.Declared.{Declared}
+use Rattle.gr_accept.specs.declared.operation.Declared.TheVariants as d
+use Rattle.gr_accept.specs.Declarations.{declaration, first_of, first_named}
+use Rattle.gr_accept.specs.Operations.{operation_of}
 
 -- Whether a binary sign divides.
 abbrev pub divides : BinOp → Bool

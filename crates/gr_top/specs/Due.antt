@@ -1,11 +1,11 @@
 -- The answer due: the refusal and the text for the options, what the text reads as, and the history of its run; and what comes of it.
 use Rattle.std.specs.Prelude.{◌≡◌, ℕ, ◌<◌, Bool, true, false, if◌then◌else◌, List, [], ◌++◌, length, take, Option, None, Some, is_some}
 use Rattle.std.specs.Io.KnownBytes.{Appends}
-use Rattle.gr_lang.specs.declared.syntax.Program.{Program}
-use Rattle.gr_lang.specs.declared.refusal.Fault.{Fault}
-use Rattle.gr_lang.specs.declared.refusal.Kind.TheVariants as k
+use Rattle.gr_syntax.specs.declared.syntax.Program.{Program}
+use Rattle.gr_syntax.specs.declared.refusal.Fault.{Fault}
+use Rattle.gr_syntax.specs.declared.refusal.Kind.TheVariants as k
 use Rattle.gr_lang.specs.declared.action.Entry.{Entry}
-use Rattle.gr_lang.specs.Faults.{fault}
+use Rattle.gr_syntax.specs.Faults.{fault}
 use Rattle.gr_lang.specs.Histories.{complete}
 use Rattle.gr_cli.specs.declared.settings.Options.{Options}
 use Rattle.gr_cli.specs.declared.settings.Command.{Command}

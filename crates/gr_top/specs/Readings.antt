@@ -1,11 +1,11 @@
 -- What a text reads as: its tokens spell one program that is accepted, or there is a first fault, of the tokens before one of the grammar before one of the checker.
 use Rattle.std.specs.Prelude.{◌≡◌, ◌≢◌, ◌<◌, ◌≤◌, ◌^◌, ℕ, true, false, List, length, map, Ok, Err, Option, None, Some, is_some, ◌⊎◌, String}
 use Rattle.std.specs.declared.alloc.Global.{Global}
-use Rattle.gr_lang.specs.declared.syntax.Program.{Program}
-use Rattle.gr_lang.specs.declared.refusal.Kind.TheVariants as k
-use Rattle.gr_lang.specs.declared.refusal.Fault.{Fault}
-use Rattle.gr_lang.specs.Faults.{fault, IsFirst}
-use Rattle.gr_lang.specs.Accepted.{faults, IsAccepted}
+use Rattle.gr_syntax.specs.declared.syntax.Program.{Program}
+use Rattle.gr_syntax.specs.declared.refusal.Kind.TheVariants as k
+use Rattle.gr_syntax.specs.declared.refusal.Fault.{Fault}
+use Rattle.gr_syntax.specs.Faults.{fault, IsFirst}
+use Rattle.gr_accept.specs.Accepted.{faults, IsAccepted}
 use Rattle.gr_text.specs.declared.token.Token.{Token}
 use Rattle.gr_text.specs.declared.fault.TextError.TheVariants as text_errors
 use Rattle.gr_text.specs.Text.{Reads}

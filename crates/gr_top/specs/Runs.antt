@@ -1,6 +1,6 @@
 -- How far a straight run on one core has come: its history leads to the state of the plain memory, in which main is alone.
 use Rattle.std.specs.Prelude.{◌≡◌, ℕ, true, List, Some, is_some}
-use Rattle.gr_lang.specs.declared.syntax.Program.{Program}
+use Rattle.gr_syntax.specs.declared.syntax.Program.{Program}
 use Rattle.gr_lang.specs.declared.action.Entry.{Entry}
 use Rattle.gr_lang.specs.States.{Task, trapped}
 use Rattle.gr_lang.specs.Histories.{final}

@@ -1,11 +1,11 @@
 -- The texts that are written, each a line or more that ends with a newline.
 use Rattle.std.specs.Prelude.{ℕ, Bool, true, false, List, [], ◌∷◌, ◌++◌, Option, Some, None, codes}
 use Rattle.std.specs.Fmt.{decimal}
-use Rattle.gr_lang.specs.declared.refusal.Fault.{Fault}
+use Rattle.gr_syntax.specs.declared.refusal.Fault.{Fault}
 use Rattle.gr_lang.specs.declared.action.Entry.{Entry}
 use Rattle.gr_lang.specs.declared.action.Entry.TheVariants as e
 use Rattle.gr_lang.specs.declared.action.Op.TheVariants as o
-use Rattle.gr_lang.specs.Faults.{words_of}
+use Rattle.gr_syntax.specs.Faults.{words_of}
 use Rattle.gr_lang.specs.Traps.{trap_word}
 use Rattle.gr_top.specs.declared.texts.TrapAt.{TrapAt}
 

@@ -1,7 +1,7 @@
 //! How a call ends.
-use gr_lang::action::{TaskId, TrapKind};
-use gr_lang::lists::History;
-use gr_lang::refusal::Kind;
+use gr_lang::{TaskId, TrapKind};
+use gr_lang::History;
+use gr_syntax::Kind;
 
 /// Why a call didn't end as it might have.
 #[derive(Clone, Copy, Debug, PartialEq, Eq)]

@@ -1,11 +1,11 @@
 //! Which accepted programs are run today.
 ghost use Rattle.std.specs.Prelude.{◌≡◌, Some, None};
 ghost use Rattle.std.specs.List.{list_all};
-ghost use Rattle.gr_lang.specs.Declarations.{first_named};
+ghost use Rattle.gr_accept.specs.Declarations.{first_named};
 ghost use Rattle.gr_top.specs.Built as spec;
 
-use gr_lang::operation::{Declared, Operation, operation_of};
-use gr_lang::syntax::{BinOp, CallText, Expr, Item, Name, Program, Right, Stmt, Text};
+use gr_accept::{Declared, Operation, operation_of};
+use gr_syntax::{BinOp, CallText, Expr, Item, Name, Program, Right, Stmt, Text};
 
 fn divides(op: BinOp) -> bool
     ensures { result ≡ spec.divides op }

@@ -3,11 +3,11 @@ ghost use Rattle.std.specs.Prelude.{List, Bool, ◌++◌, String, ◌≡◌, ◌
 ghost use Rattle.std.specs.Io.KnownBytes.{Keeps, Appends, Consumes};
 ghost use Rattle.gr_io.specs.Amounts.{ConsumesAtMost};
 ghost use Rattle.gr_io.specs.Faults.{Rose};
-ghost use Rattle.gr_lang.specs.Faults.{fault};
+ghost use Rattle.gr_syntax.specs.Faults.{fault};
 ghost use Rattle.gr_lang.specs.Histories.{legal, complete};
-ghost use Rattle.gr_lang.specs.declared.syntax.Program.{Program};
-ghost use Rattle.gr_lang.specs.declared.refusal.Kind.{Kind};
-ghost use Rattle.gr_lang.specs.declared.refusal.Fault.{Fault};
+ghost use Rattle.gr_syntax.specs.declared.syntax.Program.{Program};
+ghost use Rattle.gr_syntax.specs.declared.refusal.Kind.{Kind};
+ghost use Rattle.gr_syntax.specs.declared.refusal.Fault.{Fault};
 ghost use Rattle.gr_top.specs.declared.answer.WorldEnd.{WorldEnd};
 ghost use Rattle.gr_cli.specs.declared.settings.Options.{Options};
 ghost use Rattle.gr_cli.specs.declared.settings.Command.TheVariants as command;

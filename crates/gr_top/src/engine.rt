@@ -1,6 +1,6 @@
 //! From options and a text to an answer that is whole before a byte is written.
 ghost use Rattle.std.specs.Prelude.{◌≡◌, ◌++◌, true, IfOk, IfSome, OnOk, None, Some, Ok};
-ghost use Rattle.gr_lang.specs.declared.syntax.Program.{Program};
+ghost use Rattle.gr_syntax.specs.declared.syntax.Program.{Program};
 ghost use Rattle.gr_lang.specs.Histories.{legal};
 ghost use Rattle.gr_cli.specs.Options.{IsWithinLimits};
 ghost use Rattle.gr_hist.specs.Grammar.{ReadsText};
@@ -17,10 +17,10 @@ use crate::straight::{Ran, run};
 use crate::texts::{first_trap, prints, refused_text, write_trap};
 use gr_cli::{Command, Options};
 use gr_hist::write;
-use gr_lang::accepted::Accepted;
-use gr_lang::lists::History;
-use gr_lang::refusal::{Fault, Kind};
-use gr_lang::syntax::Place;
+use gr_accept::Accepted;
+use gr_lang::History;
+use gr_syntax::{Fault, Kind};
+use gr_syntax::Place;
 use std::alloc::{AllocError, Global};
 
 /// The greatest limit on events: no straight run on one core meets it.

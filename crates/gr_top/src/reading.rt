@@ -1,15 +1,15 @@
 //! From a text to an accepted program, or to its first fault.
 ghost use Rattle.std.specs.Prelude.{◌≡◌, true, IfOk, IsErr, Ok};
-ghost use Rattle.gr_lang.specs.Targets.{targets_fit};
+ghost use Rattle.gr_syntax.specs.Targets.{targets_fit};
 ghost use Rattle.gr_parse.specs.Grammar.{IsProgramOf, Says};
 ghost use Rattle.gr_text.specs.Text.{Reads, IsFaultOf};
 ghost use Rattle.gr_top.specs.Views.{reading_of};
 ghost use Rattle.gr_top.specs.Readings.{ReadsAs};
 
 use gr_checker::check::{CheckError, check};
-use gr_lang::accepted::Accepted;
-use gr_lang::refusal::{Fault, Kind};
-use gr_lang::syntax::{Place, Program};
+use gr_accept::Accepted;
+use gr_syntax::{Fault, Kind};
+use gr_syntax::{Place, Program};
 use gr_parse::{ParseError, parse};
 use gr_text::token::Tokens;
 use gr_text::{TextError, place, tokens};

@@ -12,7 +12,7 @@ use crate::reading::{TextRead, read_text};
 use crate::texts::{bad_line_text, legal_text, not_legal_text};
 use gr_hist::read;
 use gr_hist::text::{HistError, HistoryText};
-use gr_lang::accepted::Accepted;
+use gr_accept::Accepted;
 use gr_replay::division::divide;
 use gr_replay::replay::{ReplayError, replay};
 use std::alloc::{AllocError, Global};

@@ -4,9 +4,9 @@ ghost use Rattle.gr_lang.specs.Histories.{legal, complete};
 ghost use Rattle.gr_top.specs.Built.{is_built as is_built_program};
 ghost use Rattle.gr_top.specs.Texts.{first_trap};
 
-use gr_lang::accepted::Accepted;
-use gr_lang::action::{Entry, TaskId};
-use gr_lang::lists::History;
+use gr_accept::Accepted;
+use gr_lang::{Entry, TaskId};
+use gr_lang::History;
 use gr_plain::plain::{Plain, StepError};
 use std::alloc::{AllocError, Global};
 

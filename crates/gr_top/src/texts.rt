@@ -2,8 +2,8 @@
 ghost use Rattle.std.specs.Prelude.{◌≡◌, ◌++◌, IfOk, OnOk, string_bytes, codes, Some, None, ◌∷◌, []};
 ghost use Rattle.gr_top.specs.Texts as spec;
 
-use gr_lang::action::{Entry, Op, TaskId, TrapKind};
-use gr_lang::refusal::Fault;
+use gr_lang::{Entry, Op, TaskId, TrapKind};
+use gr_syntax::Fault;
 use std::alloc::{AllocError, Global};
 use std::fmt::Write;
 

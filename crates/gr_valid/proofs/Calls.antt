@@ -2,7 +2,7 @@
 use Rattle.std.proofs.Common.{◌≡◌, ◌≢◌, ℕ, ◌+◌, ◌==◌, List, [], ◌∷◌, length, false, ◌&&◌, ◌⊎◌, inl, inr, Some, None, refl, sym, ap, ◌∙◌, subst, arith, bytes_eq}
 use Rattle.std.specs.Ordering.{eq_by_cmp}
 use Rattle.std.specs.FinMap.{insert, get}
-use Rattle.gr_lang.specs.declared.syntax.Program.{Program}
+use Rattle.gr_syntax.specs.declared.syntax.Program.{Program}
 use Rattle.gr_lang.specs.declared.action.Action.{Action}
 use Rattle.gr_lang.specs.declared.action.Action.TheVariants as a
 use Rattle.gr_lang.specs.declared.action.Op.{Op}
@@ -10,7 +10,7 @@ use Rattle.gr_lang.specs.declared.action.How.{How}
 use Rattle.gr_lang.specs.declared.action.Reply.{Reply}
 use Rattle.gr_lang.specs.declared.action.TaskId.{TaskId}
 use Rattle.gr_lang.specs.Fields.{same_how}
-use Rattle.gr_lang.specs.Objects.{nothing}
+use Rattle.gr_lang.specs.Effects.{nothing}
 use Rattle.gr_lang.specs.Next.{go_on}
 use Rattle.gr_lang.specs.States.{going, ended, Task, State, id_cmp, innermost, innermost_of, child}
 use Rattle.gr_lang.specs.Steps.{set_task, goes_on, called, call_step, spawn_step, has_core, is_new as new_id}

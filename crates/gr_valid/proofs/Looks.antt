@@ -1,15 +1,15 @@
 -- The ends of `finish` that are still to do: pure steps keep their number, and a task that goes on has one more after a `finish`, and one fewer after its end.
 use Rattle.std.proofs.Common.{◌≡◌, ℕ, zero, suc, List, [], ◌∷◌, ◌++◌, slice_get, Bool, true, false, inl, inr, ◌==◌, if◌then◌else◌, Option, Some, None, refl, sym, ap, ◌∙◌, subst}
 use Rattle.std.specs.Option.{option_map, option_map_or}
-use Rattle.gr_lang.specs.declared.syntax.Stmt.{Stmt, out-Stmt}
-use Rattle.gr_lang.specs.declared.syntax.Stmt.TheOpen.{Stmt-F}
-use Rattle.gr_lang.specs.declared.syntax.Expr.{Expr}
-use Rattle.gr_lang.specs.declared.syntax.Name.{Name}
-use Rattle.gr_lang.specs.declared.syntax.Right.{Right}
-use Rattle.gr_lang.specs.declared.syntax.Right.TheVariants as r
-use Rattle.gr_lang.specs.declared.syntax.CallText.{CallText}
-use Rattle.gr_lang.specs.declared.syntax.Program.{Program}
-use Rattle.gr_lang.specs.declared.operation.Operation.{Operation}
+use Rattle.gr_syntax.specs.declared.syntax.Stmt.{Stmt, out-Stmt}
+use Rattle.gr_syntax.specs.declared.syntax.Stmt.TheOpen.{Stmt-F}
+use Rattle.gr_syntax.specs.declared.syntax.Expr.{Expr}
+use Rattle.gr_syntax.specs.declared.syntax.Name.{Name}
+use Rattle.gr_syntax.specs.declared.syntax.Right.{Right}
+use Rattle.gr_syntax.specs.declared.syntax.Right.TheVariants as r
+use Rattle.gr_syntax.specs.declared.syntax.CallText.{CallText}
+use Rattle.gr_syntax.specs.declared.syntax.Program.{Program}
+use Rattle.gr_accept.specs.declared.operation.Operation.{Operation}
 use Rattle.gr_lang.specs.declared.action.How.{How}
 use Rattle.gr_lang.specs.declared.action.Action.{Action}
 use Rattle.gr_lang.specs.declared.action.Action.TheVariants as a
@@ -19,9 +19,11 @@ use Rattle.gr_lang.specs.declared.action.TrapKind.TheVariants as trap
 use Rattle.gr_lang.specs.declared.action.Reply.{Reply}
 use Rattle.gr_lang.specs.Locals.{Locals}
 use Rattle.gr_lang.specs.Expressions.{value, values}
-use Rattle.gr_lang.specs.Operations.{operation_of}
-use Rattle.gr_lang.specs.Openings.{object_of, TaskText, tasks_of}
-use Rattle.gr_lang.specs.Next.{Todo, Running, run, arrive, runs, Look, pure, acts, look, look_at, look_set, look_todo, next, at_limit, after_look, Stands, go_on, go_on_todo, go_on_at, acted, named_action, op_of, call_action, reducer_number, spawn_action, loop_action, how_of, set_all, start, start_at}
+use Rattle.gr_accept.specs.Operations.{operation_of}
+use Rattle.gr_syntax.specs.Items.{TaskText, tasks_of}
+use Rattle.gr_lang.specs.Openings.{object_of}
+use Rattle.gr_lang.specs.Next.{Todo, Running, run, arrive, runs, Look, pure, acts, look, look_at, look_set, look_todo, next, at_limit, after_look, Stands, go_on, go_on_todo, go_on_at, acted, named_action, call_action, reducer_number, spawn_action, loop_action, how_of, set_all, start, start_at}
+use Rattle.gr_lang.specs.Parts.{op_of}
 use Rattle.gr_valid.specs.Valid.{arrives, StandsAt}
 
 pub arrives_runs : (ss : List Stmt) (rest : List Todo) → arrives (runs ss ++ rest) ≡ arrives rest

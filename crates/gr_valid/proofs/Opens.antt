@@ -2,11 +2,11 @@
 use Rattle.std.proofs.Common.{◌≡◌, ◌≢◌, ℕ, suc, ◌+◌, List, [], ◌∷◌, ◌++◌, length, slice_get, slice_set, true, not, ◌&&◌, nat_lt, nat_le, ◌⊎◌, inl, inr, Option, Some, None, refl, sym, ap, ◌∙◌, subst, arith}
 use Rattle.std.specs.FinMap.{get}
 use Rattle.std.specs.FinSet as set
-use Rattle.gr_lang.specs.declared.syntax.Program.{Program}
+use Rattle.gr_syntax.specs.declared.syntax.Program.{Program}
 use Rattle.gr_lang.specs.declared.action.Action.{Action}
 use Rattle.gr_lang.specs.declared.action.Action.TheVariants as a
 use Rattle.gr_lang.specs.declared.action.TaskId.{TaskId}
-use Rattle.gr_lang.specs.Objects.{nothing}
+use Rattle.gr_lang.specs.Effects.{nothing}
 use Rattle.gr_lang.specs.Next.{go_on}
 use Rattle.gr_lang.specs.States.{going, at_loop, Task, Range, Scope, State, child, range_left}
 use Rattle.gr_lang.specs.Steps.{set_task, goes_on, new_scope, open_scope, finish_step, loop_step, begin_in, begin_at, begin_step, is_new as new_id}

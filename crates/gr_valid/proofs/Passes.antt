@@ -2,13 +2,13 @@
 use Rattle.std.proofs.Common.{◌≡◌, ◌≢◌, ℕ, suc, List, [], ◌∷◌, length, true, not, ◌⊎◌, inl, inr, Some, None, refl, sym, ap, ◌∙◌, subst, arith}
 use Rattle.std.specs.Prelude.{if◌then◌else◌}
 use Rattle.std.specs.FinMap.{get}
-use Rattle.gr_lang.specs.declared.syntax.Program.{Program}
+use Rattle.gr_syntax.specs.declared.syntax.Program.{Program}
 use Rattle.gr_lang.specs.declared.action.Action.{Action}
 use Rattle.gr_lang.specs.declared.action.Action.TheVariants as a
 use Rattle.gr_lang.specs.declared.action.TrapKind.{TrapKind}
 use Rattle.gr_lang.specs.declared.action.TrapKind.TheVariants as trap
 use Rattle.gr_lang.specs.declared.action.TaskId.{TaskId}
-use Rattle.gr_lang.specs.Objects.{nothing}
+use Rattle.gr_lang.specs.Effects.{nothing}
 use Rattle.gr_lang.specs.Next.{go_on}
 use Rattle.gr_lang.specs.States.{Mode, going, at_loop, ended, trapped, Task, Scope, State, is_going, is_at_loop, left}
 use Rattle.gr_lang.specs.Steps.{set_task, goes_on, pass_from, arrive_step, pass_step, end_step, trap_step, over_step}

@@ -1,7 +1,7 @@
 use Rattle.std.proofs.Common.{◌≡◌, drop}
 use Rattle.gr_checker.specs.Meanings.{named}
 use Rattle.gr_checker.specs.Earliest.{seen}
-use Rattle.gr_lang.specs.Walks.{exprs_sites}
+use Rattle.gr_accept.specs.Walks.{exprs_sites}
 use Rattle.gr_checker.proofs.calls.check_exprs.Given as goal
 
 abbrev pub invariant-loop-expr : goal.invariant-loop-expr

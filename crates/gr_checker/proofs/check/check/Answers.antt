@@ -1,5 +1,5 @@
 use Rattle.std.proofs.Common.{◌∙◌, sym}
-use Rattle.gr_lang.specs.Accepted.{faults}
+use Rattle.gr_accept.specs.Accepted.{faults}
 use Rattle.gr_checker.proofs.Firsts.{least-first, least-none}
 use Rattle.gr_checker.proofs.check.check.Goals as goal
 

@@ -1,5 +1,5 @@
 use Rattle.std.proofs.Common.{◌≡◌, drop}
-use Rattle.gr_lang.specs.Conditions.{has_main}
+use Rattle.gr_accept.specs.Conditions.{has_main}
 use Rattle.gr_checker.proofs.check.finds_main.Given as goal
 
 abbrev pub invariant-loop-item : goal.invariant-loop-item

@@ -1,7 +1,7 @@
 use Rattle.std.proofs.Common.{◌≡◌, drop}
 use Rattle.gr_checker.specs.Earliest.{seen}
 use Rattle.gr_checker.specs.Meanings.{named}
-use Rattle.gr_lang.specs.Accepted.{uses_sites}
+use Rattle.gr_accept.specs.Accepted.{uses_sites}
 use Rattle.gr_checker.proofs.check.use_all.Given as goal
 
 abbrev pub invariant-loop-item : goal.invariant-loop-item

@@ -1,4 +1,4 @@
-use Rattle.gr_lang.specs.Accepted.{faults}
+use Rattle.gr_accept.specs.Accepted.{faults}
 use Rattle.std.proofs.Common.{⊎_elim, inl, inr}
 use Rattle.gr_checker.proofs.Firsts.{first-unique, first-some, none-or-first}
 use Rattle.gr_checker.proofs.laws.refusals_are_exact.Goals as goal

@@ -1,6 +1,6 @@
 use Rattle.std.proofs.Common.{arith, take, length, ◌≡◌, ◌+◌, ◌∙◌, ap, sym, drop, get_or}
 use Rattle.gr_checker.specs.Meanings.{named}
-use Rattle.gr_lang.specs.Walks.{expr_sites, only, both, closed, stmt, stmts}
+use Rattle.gr_accept.specs.Walks.{expr_sites, only, both, closed, stmt, stmts}
 use Rattle.gr_checker.specs.Walked.{after, scope_of}
 use Rattle.gr_checker.proofs.Cases.{restored}
 use Rattle.gr_checker.proofs.Nexts.{stmts-next}

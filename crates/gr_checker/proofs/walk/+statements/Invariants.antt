@@ -1,6 +1,6 @@
 use Rattle.std.proofs.Common.{◌≡◌, drop}
 use Rattle.gr_checker.specs.Walked.{after}
-use Rattle.gr_lang.specs.Walks.{stmts}
+use Rattle.gr_accept.specs.Walks.{stmts}
 use Rattle.gr_checker.specs.Meanings.{named}
 use Rattle.gr_checker.proofs.walk.+statements.Given as goal
 

@@ -2,7 +2,7 @@ use Rattle.std.proofs.Common.{◌∙◌, ap, sym}
 use Rattle.gr_checker.specs.Meanings.{named}
 use Rattle.gr_checker.specs.Walked.{after}
 use Rattle.gr_checker.proofs.Statements.{after-both}
-use Rattle.gr_lang.specs.Walks.{only, targets, right_sites}
+use Rattle.gr_accept.specs.Walks.{only, targets, right_sites}
 use Rattle.gr_checker.proofs.walk.check_set.Goals as goal
 
 pub returns : goal.returns

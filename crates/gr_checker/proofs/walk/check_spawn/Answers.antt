@@ -1,7 +1,7 @@
 use Rattle.std.proofs.Common.{length, ◌∷◌}
 use Rattle.gr_checker.specs.Meanings.{named}
-use Rattle.gr_lang.specs.Sites.{starts}
-use Rattle.gr_lang.specs.Walks.{how_sites, exprs_sites}
+use Rattle.gr_accept.specs.Sites.{starts}
+use Rattle.gr_accept.specs.Walks.{how_sites, exprs_sites}
 use Rattle.gr_checker.proofs.Leasts.{seen-append}
 use Rattle.gr_checker.proofs.walk.check_spawn.Goals as goal
 

@@ -1,5 +1,5 @@
 use Rattle.std.proofs.Common.{◌≡◌, ◌++◌, drop, map}
-use Rattle.gr_lang.specs.Openings.{object_names}
+use Rattle.gr_syntax.specs.Items.{object_names}
 use Rattle.gr_hist.proofs.tables.objects_in.Given as goal
 
 abbrev pub invariant-loop-item : goal.invariant-loop-item

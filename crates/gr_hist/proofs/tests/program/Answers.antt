@@ -1,5 +1,5 @@
 use Rattle.std.proofs.Common.{subst, sym}
-use Rattle.gr_lang.specs.Accepted.{IsAccepted}
+use Rattle.gr_accept.specs.Accepted.{IsAccepted}
 use Rattle.gr_hist.proofs.Examples as examples
 use Rattle.gr_hist.proofs.tests.program.Goals as goal
 

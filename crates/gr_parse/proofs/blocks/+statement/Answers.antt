@@ -1,6 +1,6 @@
 use Rattle.std.proofs.Common.{rules, arith, ◌≡◌, ℕ, ◌-◌, Bool, [], ◌∷◌, ◌++◌, List, Ok, sym, ◌∙◌, ap}
 use Rattle.std.proofs.lemmas.Grind.{common_steps}
-use Rattle.gr_lang.specs.declared.syntax.Stmt.{Stmt}
+use Rattle.gr_syntax.specs.declared.syntax.Stmt.{Stmt}
 use Rattle.gr_text.specs.declared.token.Sign.TheVariants as signs
 use Rattle.gr_meets.specs.Parsers as read
 use Rattle.gr_meets.proofs.Runs.{run_end, run_go}

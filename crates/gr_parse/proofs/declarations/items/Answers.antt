@@ -1,6 +1,6 @@
 use Rattle.std.proofs.Common.{rules, arith, ◌≡◌, ◌-◌, [], ◌∷◌, ◌++◌, List, Ok, sym, ◌∙◌, ap, refl}
 use Rattle.std.proofs.lemmas.Grind.{common_steps}
-use Rattle.gr_lang.specs.declared.syntax.Item.{Item}
+use Rattle.gr_syntax.specs.declared.syntax.Item.{Item}
 use Rattle.gr_meets.specs.Parsers as read
 use Rattle.gr_meets.proofs.Runs.{run_end, run_go}
 use Rattle.gr_parse.specs.Tok as tok

@@ -1,6 +1,6 @@
 use Rattle.std.proofs.Common.{rules, arith, ◌≡◌, ℕ, suc, ◌-◌, Ok, sym, ◌∙◌, ap}
 use Rattle.std.proofs.lemmas.Grind.{common_steps}
-use Rattle.gr_lang.specs.declared.syntax.Expr.{Expr}
+use Rattle.gr_syntax.specs.declared.syntax.Expr.{Expr}
 use Rattle.gr_meets.specs.Parsers as read
 use Rattle.gr_meets.proofs.Chains.{chain_none, chain_full, chain_some}
 use Rattle.gr_parse.specs.Tok as tok

@@ -1,5 +1,5 @@
 use Rattle.std.proofs.Common.{List, ap, arith, length}
-use Rattle.gr_lang.specs.declared.syntax.Item.{Item}
+use Rattle.gr_syntax.specs.declared.syntax.Item.{Item}
 use Rattle.gr_plain.proofs.Sizes.{all_lie, arrays_fit, words_hold}
 use Rattle.gr_plain.proofs.opening.open_memory.Goals as goal
 

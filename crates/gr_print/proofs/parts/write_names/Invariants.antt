@@ -1,5 +1,5 @@
 use Rattle.std.proofs.Common.{◌≡◌, ◌++◌, [], ◌∷◌, map, drop, string_bytes}
-use Rattle.gr_lang.specs.declared.syntax.Name.{Name}
+use Rattle.gr_syntax.specs.declared.syntax.Name.{Name}
 use Rattle.gr_print.specs.Pieces.{bytes_of, name}
 use Rattle.gr_print.specs.Layout.{names, behind}
 use Rattle.gr_print.proofs.parts.write_names.Given as goal

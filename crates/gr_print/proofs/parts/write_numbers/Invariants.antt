@@ -1,5 +1,5 @@
 use Rattle.std.proofs.Common.{◌≡◌, ◌++◌, [], ◌∷◌, map, drop, string_bytes}
-use Rattle.gr_lang.specs.declared.syntax.Number.{Number}
+use Rattle.gr_syntax.specs.declared.syntax.Number.{Number}
 use Rattle.gr_print.specs.Pieces.{bytes_of, number}
 use Rattle.gr_print.specs.Layout.{numbers, behind}
 use Rattle.gr_print.proofs.parts.write_numbers.Given as goal

@@ -1,5 +1,5 @@
 use Rattle.std.proofs.Common.{◌≡◌, ◌++◌, drop, map}
-use Rattle.gr_lang.specs.Openings.{tasks_of}
+use Rattle.gr_syntax.specs.Items.{tasks_of}
 use Rattle.gr_replay.proofs.names.task_names_of.Given as goal
 
 abbrev pub invariant-loop-item : goal.invariant-loop-item

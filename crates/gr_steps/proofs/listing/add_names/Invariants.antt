@@ -1,5 +1,5 @@
 use Rattle.std.proofs.Common.{◌≡◌, ◌++◌, drop, map}
-use Rattle.gr_lang.specs.Openings.{texts}
+use Rattle.gr_syntax.specs.Items.{texts}
 use Rattle.gr_steps.proofs.listing.add_names.Given as goal
 
 abbrev pub invariant-loop-name : goal.invariant-loop-name

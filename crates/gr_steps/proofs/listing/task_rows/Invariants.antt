@@ -1,5 +1,5 @@
 use Rattle.std.proofs.Common.{◌≡◌, ◌++◌, drop, map}
-use Rattle.gr_lang.specs.Openings.{tasks_of}
+use Rattle.gr_syntax.specs.Items.{tasks_of}
 use Rattle.gr_steps.specs.TableView.{knowns_of, row_of}
 use Rattle.gr_steps.proofs.listing.task_rows.Given as goal
 

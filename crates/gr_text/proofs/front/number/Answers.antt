@@ -1,7 +1,7 @@
 use Rattle.std.proofs.Common.{arith, rules, refl}
 use Rattle.std.specs.Str.Parse.{digits_value}
 use Rattle.std.proofs.lemmas.List.Sums.{prefix_len-le-length}
-use Rattle.gr_lang.specs.Names.{is_digit}
+use Rattle.gr_syntax.specs.Names.{is_digit}
 use Rattle.gr_text.proofs.Found.{digits_all, number_found}
 use Rattle.gr_text.proofs.front.number.Goals as goal
 

@@ -1,7 +1,7 @@
 use Rattle.std.proofs.Common.{◌<◌, arith}
 use Rattle.std.proofs.lemmas.List.Sums.{prefix_len-le-length}
 use Rattle.std.specs.List.{prefix_len}
-use Rattle.gr_lang.specs.Names.{is_word, most_name}
+use Rattle.gr_syntax.specs.Names.{is_word, most_name}
 use Rattle.gr_text.proofs.Found.{keyword_found, name_found}
 use Rattle.gr_text.proofs.Longest.{long_front}
 use Rattle.gr_text.proofs.front.word.Goals as goal

@@ -1,5 +1,5 @@
 use Rattle.std.proofs.Common.{◌≡◌, drop}
-use Rattle.gr_lang.specs.Declarations.{first_named}
+use Rattle.gr_accept.specs.Declarations.{first_named}
 use Rattle.gr_top.proofs.built.named.Given as goal
 
 abbrev pub invariant-loop-item : goal.invariant-loop-item

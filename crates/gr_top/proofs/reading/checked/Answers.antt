@@ -1,5 +1,5 @@
 use Rattle.std.proofs.Common.{sym, subst}
-use Rattle.gr_lang.specs.declared.syntax.Program.{Program}
+use Rattle.gr_syntax.specs.declared.syntax.Program.{Program}
 use Rattle.gr_checker.specs.declared.check.CheckError.{CheckError}
 use Rattle.gr_checker.specs.Refusals.{Refuses}
 use Rattle.gr_top.specs.Due.{accepted}

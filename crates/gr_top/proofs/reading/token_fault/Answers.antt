@@ -1,7 +1,7 @@
 use Rattle.std.proofs.Common.{Err, sym, subst}
-use Rattle.gr_lang.specs.declared.refusal.Kind.TheVariants as k
-use Rattle.gr_lang.specs.declared.syntax.Place.{Place}
-use Rattle.gr_lang.specs.Faults.{fault}
+use Rattle.gr_syntax.specs.declared.refusal.Kind.TheVariants as k
+use Rattle.gr_syntax.specs.declared.syntax.Place.{Place}
+use Rattle.gr_syntax.specs.Faults.{fault}
 use Rattle.gr_text.specs.declared.fault.TextError.TheVariants as faults
 use Rattle.gr_text.specs.Text.{Reads, IsFaultOf}
 use Rattle.gr_top.specs.Due.{refused}

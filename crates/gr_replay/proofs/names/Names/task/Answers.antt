@@ -1,5 +1,5 @@
 use Rattle.std.proofs.Common.{◌∙◌}
-use Rattle.gr_lang.specs.Openings.{tasks_of}
+use Rattle.gr_syntax.specs.Items.{tasks_of}
 use Rattle.gr_replay.proofs.Numberings.{task_place}
 use Rattle.gr_replay.proofs.names.Names.task.Goals as goal
 

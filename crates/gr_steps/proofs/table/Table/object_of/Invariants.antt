@@ -1,5 +1,6 @@
 use Rattle.std.proofs.Common.{◌≡◌, ◌+◌, drop, map}
-use Rattle.gr_lang.specs.Openings.{place_of, object_names}
+use Rattle.gr_syntax.specs.Items.{object_names}
+use Rattle.gr_lang.specs.Openings.{place_of}
 use Rattle.gr_steps.proofs.table.Table.object_of.Given as goal
 
 abbrev pub invariant-loop-other : goal.invariant-loop-other
