@@ -3,4 +3,4 @@
 
 mod laws;
 
-pub use laws::{histories_are_valid, states_stay_valid, work_is_direct};
+pub use laws::{histories_are_valid, histories_end, states_stay_valid, work_is_direct};
