@@ -50,21 +50,28 @@ impl<W: Write + Drop> Write for Shaky<W> {
     }
 }
 
-#[test]
-fn one_failure_is_one_fault(rt: HostRuntime) -> Result<(), Fail> {
-    for (interruptions, fault, faults) in [
-        (0, None, 0),
-        (999, None, 0),
-        (1000, None, 1),
-        (0, Some(ErrorKind::ConnectionReset), 1),
-        (0, Some(ErrorKind::WouldBlock), 1),
-        (0, Some(ErrorKind::WriteZero), 1),
-        (2, Some(ErrorKind::Other), 1),
-    ] {
-        // What the first call answers, what the second, and how many faults were counted then.
-        let due = if faults == 0 { Ok(4) } else { Err(Failed) };
-        let due = (due, Ok(4), faults);
+/// How often a device is interrupted, how it then fails, and how many faults that is.
+const FAILURES: [(u64, Option<ErrorKind>, u64); 7] = [
+    (0, None, 0),
+    (999, None, 0),
+    (1000, None, 1),
+    (0, Some(ErrorKind::ConnectionReset), 1),
+    (0, Some(ErrorKind::WouldBlock), 1),
+    (0, Some(ErrorKind::WriteZero), 1),
+    (2, Some(ErrorKind::Other), 1),
+];
 
+/// What the first call answers, what the second, and how many faults were counted then.
+type Told = (Result<usize, Failed>, Result<usize, Failed>, u64);
+
+fn told(faults: u64) -> Told {
+    let first = if faults == 0 { Ok(4) } else { Err(Failed) };
+    (first, Ok(4), faults)
+}
+
+#[test]
+fn one_failed_read_is_one_fault(rt: HostRuntime) -> Result<(), Fail> {
+    for (interruptions, fault, faults) in FAILURES {
         let mut source = StdSource::new(Shaky {
             inner: b"01234567".as_slice(),
             interruptions,
@@ -75,10 +82,16 @@ fn one_failure_is_one_fault(rt: HostRuntime) -> Result<(), Fail> {
         let second = source.read(&mut buf);
         assert_eq!(rt;
             (first, second, source.faults),
-            due,
+            told(faults),
             "{interruptions} {fault:?}"
         );
+    }
+    Ok(())
+}
 
+#[test]
+fn one_failed_write_is_one_fault(rt: HostRuntime) -> Result<(), Fail> {
+    for (interruptions, fault, faults) in FAILURES {
         let mut sink = StdSink::new(Shaky {
             inner: Vec::new(rt.alloc()),
             interruptions,
@@ -88,7 +101,7 @@ fn one_failure_is_one_fault(rt: HostRuntime) -> Result<(), Fail> {
         let second = sink.write(b"0123");
         assert_eq!(rt;
             (first, second, sink.faults),
-            due,
+            told(faults),
             "{interruptions} {fault:?}"
         );
     }
