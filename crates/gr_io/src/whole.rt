@@ -8,6 +8,9 @@ use crate::device::{Sink, Source};
 use std::alloc::{AllocError, Global};
 use thiserror::Error;
 
+#[cfg(test)]
+mod tests;
+
 /// Why `read_all` gives no bytes.
 #[derive(Clone, Copy, Debug, PartialEq, Eq, Error)]
 pub enum ReadAllError {
