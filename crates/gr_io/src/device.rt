@@ -15,8 +15,8 @@ pub struct Failed;
 
 /// Where bytes come from.
 ///
-/// It tells the bytes that are left, unless it can't know them, and a count of its faults: the reads
-/// that failed, up to the last `u64`.
+/// It tells the bytes that are left, unless it can't know them, and a count of its faults: the
+/// reads that failed, up to the last `u64`.
 pub trait Source {
     // the bytes that reads will give from here on, where the source knows them
     ghost left: { Self → Option (List ℕ) };
@@ -41,8 +41,8 @@ pub trait Source {
 
 /// Where bytes go.
 ///
-/// It tells the bytes that it got, unless it can't know them, and a count of its faults: the writes
-/// that failed, up to the last `u64`.
+/// It tells the bytes that it got, unless it can't know them, and a count of its faults: the
+/// writes that failed, up to the last `u64`.
 pub trait Sink {
     // the bytes that it got, where the sink knows them
     ghost got: { Self → Option (List ℕ) };

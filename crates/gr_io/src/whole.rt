@@ -101,7 +101,8 @@ pub fn read_all<S: Source>(alloc: Global, source: &mut S, max: u64) -> Result<Ve
 ///
 /// # Errors
 ///
-/// `WriteFault` where a write failed, and nowhere else. The sink got just the first `written` bytes.
+/// `WriteFault` where a write failed, and nowhere else. The sink got just the first `written`
+/// bytes.
 pub fn write_all<K: Sink>(sink: &mut K, bytes: &[u8]) -> Result<(), WriteFault>
     ensures all { OnOk result (Appends (K.got sink.old) (K.got sink.new) bytes.now) }
     ensures part { IfErr result (λ fault.
