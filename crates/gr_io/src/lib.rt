@@ -1,4 +1,4 @@
-// Where bytes come from and where they go: sources and sinks that count their faults.
+//! Where bytes come from and where they go: sources and sinks that count their faults.
 #![tactic(auto)]
 
 mod device;
