@@ -56,8 +56,8 @@ made_too_long words bytes a o some reads more x y z =
     subst (λ (d : Due). IsDue words bytes a.world d) (sym (is_made a due_too_long x y (ap is_some z))) (IsDue.too_long o some reads more)
 
 pub made_read : (words : List (String Global)) (bytes : List ℕ) (a : Answer) (o : Options) → asked words ≡ Some o → is_on_text o.command ≡ true → length bytes ≤ limit_of o.command
-    → ((reading : Reading) × ReadsAs bytes reading × (made a ≡ due_read o reading a.world)) → IsDue words bytes a.world (made a)
-made_read words bytes a o some on few h = subst (λ (d : Due). IsDue words bytes a.world d) (sym h.2) (IsDue.read o some on few h.1)
+    → ((reading : Reading) × ReadsAs bytes reading × (due_read o reading a.world ≡ Some (made a))) → IsDue words bytes a.world (made a)
+made_read words bytes a o some on few h = IsDue.read o some on few h.1 h.2
 
 pub made_replayed : (words : List (String Global)) (bytes : List ℕ) (a : Answer) (o : Options) → asked words ≡ Some o → is_replay o.command ≡ true → length bytes ≤ limit_of o.command
     → ((found : Replayed) × ReplaysAs (program_part bytes) (history_part bytes) found × (made a ≡ due_replayed found)) → IsDue words bytes a.world (made a)
