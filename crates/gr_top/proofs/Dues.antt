@@ -20,7 +20,7 @@ use Rattle.gr_top.specs.Commands.{asked, is_on_text, is_replay, is_read, limit_o
 use Rattle.gr_top.specs.Due.{Reading, accepted, refused, Replayed, unread, bad_line, judged, Due, due_usage, due_too_long, due_read, due_refused, due_accepted, due_run, due_of_run, due_trapped, due_replayed, due_judged, told, followed, not_built, status_of, Came}
 use Rattle.gr_top.specs.Readings.{ReadsAs, ReplaysAs, IsDue, Answered, IsRunOf, IsWorldOf, Refusing}
 use Rattle.gr_top.specs.Texts.{usage_text, too_long_text, prints, first_trap}
-use Rattle.gr_top.specs.Views.{made}
+use Rattle.gr_top.specs.AnswerView.{made}
 use Rattle.gr_top.specs.declared.answer.Answer.{Answer}
 use Rattle.gr_top.specs.declared.answer.Refusal.{Refusal}
 use Rattle.gr_top.specs.declared.answer.Refusal.TheVariants as r

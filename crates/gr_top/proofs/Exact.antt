@@ -20,7 +20,7 @@ use Rattle.gr_top.specs.Commands.{asked, is_on_text, is_replay, is_read, limit_o
 use Rattle.gr_top.specs.Due.{Reading, accepted, refused, Replayed, unread, bad_line, judged, Due, due_usage, due_too_long, due_read, due_refused, due_accepted, due_run, due_of_run, due_trapped, due_replayed, due_judged, told, followed, not_built, status_of, Came}
 use Rattle.gr_top.specs.Readings.{ReadsAs, ReplaysAs, IsDue, Answered, IsRunOf, IsWorldOf, Refusing}
 use Rattle.gr_top.specs.Texts.{usage_text, too_long_text, prints, first_trap}
-use Rattle.gr_top.specs.Views.{made}
+use Rattle.gr_top.specs.AnswerView.{made}
 use Rattle.gr_top.specs.declared.answer.Answer.{Answer}
 use Rattle.gr_top.specs.declared.answer.Refusal.{Refusal}
 use Rattle.gr_top.specs.declared.answer.Refusal.TheVariants as r
@@ -131,34 +131,25 @@ module _ (lines_once : ReadsOnce) (judges_once : JudgedOnce) where
   on_text : (c d : Command) → c ≡ d → is_on_text d ≡ true → is_on_text c ≡ true
   on_text c d e h = ap is_on_text e ∙ h
 
-  text_limit : (c : Command) → is_on_text c ≡ true → limit_of c ≡ 2 ^ 20
-  text_limit Run e = refl
-  text_limit Check e = refl
-  text_limit Replay e = cc
-  text_limit Bench e = refl
-
-  within_limit : (o : Options) (n : ℕ) → is_on_text o.command ≡ true → n ≤ 2 ^ 20 → n ≤ limit_of o.command
-  within_limit o n on few = subst (λ (m : ℕ). n ≤ m) (sym (text_limit o.command on)) few
-
   -- Of a text that is read it is the answer to what it reads as.
   due_of_reading : (words : List (String Global)) (bytes : List ℕ) (world : Option WorldEnd) (d : Due) (o : Options) (reading : Reading)
-      → IsDue words bytes world d → length bytes ≤ 2 ^ 20 → ReadsAs bytes reading → asked words ≡ Some o → is_on_text o.command ≡ true → due_read o reading world ≡ Some d
+      → IsDue words bytes world d → length bytes ≤ limit_of o.command → ReadsAs bytes reading → asked words ≡ Some o → is_on_text o.command ≡ true → due_read o reading world ≡ Some d
   due_of_reading words bytes world _ o reading (IsDue.usage none) few reads some on = absurd (some_options words o some none)
   due_of_reading words bytes world _ o reading (IsDue.bench q also none) few reads some on = absurd (apart words o q is_read some also (text_is_read o.command on) none)
   due_of_reading words bytes world _ o reading (IsDue.too_long q also sees more) few reads some on =
-      absurd (omega (arith, more, within_limit o (length bytes) on few, ap (λ (z : Options). limit_of z.command) (same_options words o q some also)))
+      absurd (omega (arith, more, few, ap (λ (z : Options). limit_of z.command) (same_options words o q some also)))
   due_of_reading words bytes world _ o reading (IsDue.read {reading = y} q also off less k e) few reads some on = same_due words bytes world reading y o q some also reads k ∙ e
   due_of_reading words bytes world _ o reading (IsDue.replayed q also off less k) few reads some on = absurd (apart words o q is_on_text some also on (replay_is_no_text q.command off))
 
   pub due_check : (words : List (String Global)) (bytes : List ℕ) (world : Option WorldEnd) (d : Due) (o : Options) (p : Program)
-      → IsDue words bytes world d → length bytes ≤ 2 ^ 20 → ReadsAs bytes (accepted p) → asked words ≡ Some o → o.command ≡ Check → status_of d.refusal ≡ 0
+      → IsDue words bytes world d → length bytes ≤ limit_of o.command → ReadsAs bytes (accepted p) → asked words ≡ Some o → o.command ≡ Check → status_of d.refusal ≡ 0
   due_check words bytes world d o p h few reads some c =
       let e : due_accepted Check o p world ≡ Some d = sym (ap (λ (x : Command). due_accepted x o p world) c) ∙ due_of_reading words bytes world d o (accepted p) h few reads some (on_text o.command Check c refl) in
       let same : said Nothing accepted_text ≡ d = cc in
       ap (λ (x : Due). status_of x.refusal) (sym same)
 
   pub due_run_status : (words : List (String Global)) (bytes : List ℕ) (world : Option WorldEnd) (d : Due) (o : Options) (p : Program)
-      → IsDue words bytes world d → length bytes ≤ 2 ^ 20 → ReadsAs bytes (accepted p) → asked words ≡ Some o → o.command ≡ Run → is_run o p ≡ true → IsRunStatus d
+      → IsDue words bytes world d → length bytes ≤ limit_of o.command → ReadsAs bytes (accepted p) → asked words ≡ Some o → o.command ≡ Run → is_run o p ≡ true → IsRunStatus d
   due_run_status words bytes world d o p h few reads some c built =
       let e : due_run o p world ≡ Some d =
           sym (ap (λ (b : Bool). if b then due_run o p world else Some (due_refused not_built)) built) ∙ sym (ap (λ (x : Command). due_accepted x o p world) c)
@@ -167,15 +158,15 @@ module _ (lines_once : ReadsOnce) (judges_once : JudgedOnce) where
 
   -- A refused text is refused.
   pub due_refusal : (words : List (String Global)) (bytes : List ℕ) (world : Option WorldEnd) (d : Due) (o : Options) (f : Fault)
-      → IsDue words bytes world d → length bytes ≤ 2 ^ 20 → ReadsAs bytes (refused f) → asked words ≡ Some o → is_on_text o.command ≡ true → d ≡ due_refused f
+      → IsDue words bytes world d → length bytes ≤ limit_of o.command → ReadsAs bytes (refused f) → asked words ≡ Some o → is_on_text o.command ≡ true → d ≡ due_refused f
   due_refusal words bytes world d o f h few reads some on =
       let e : Some (due_refused f) ≡ Some d = due_of_reading words bytes world d o (refused f) h few reads some on in
       let same : due_refused f ≡ d = cc in sym same
 
   -- A legal history is said to be legal.
   pub due_legal : (words : List (String Global)) (bytes : List ℕ) (world : Option WorldEnd) (d : Due) (o : Options) (b : Bool)
-      → IsDue words bytes world d → length bytes ≤ 2 ^ 26 → ReplaysAs (program_part bytes) (history_part bytes) (judged (verdict.legal b)) → asked words ≡ Some o → o.command ≡ Replay
+      → IsDue words bytes world d → length bytes ≤ limit_of o.command → ReplaysAs (program_part bytes) (history_part bytes) (judged (verdict.legal b)) → asked words ≡ Some o → o.command ≡ Replay
       → status_of d.refusal ≡ 0
   due_legal words bytes world d o b h few found some c =
       ap (λ (x : Due). status_of x.refusal) (due_once words bytes world d (due_judged (verdict.legal b)) h
-      (IsDue.replayed o some (ap is_replay c) (subst (λ (m : Command). length bytes ≤ limit_of m) (sym c) few) found))
+      (IsDue.replayed o some (ap is_replay c) few found))

@@ -9,7 +9,7 @@ ghost use Rattle.gr_hist.specs.Naming.{IsNamed, history_text};
 ghost use Rattle.gr_top.specs.Commands.{is_on_text, is_run as is_run_today};
 ghost use Rattle.gr_top.specs.Due.{Reading, accepted as accepted_as, not_built as not_built_fault, due_read, due_accepted, due_run, due_of_run, due_refused, followed, told, IsWritten};
 ghost use Rattle.gr_top.specs.Readings.{ReadsAs, IsRunOf, told_as};
-ghost use Rattle.gr_top.specs.Views.{made};
+ghost use Rattle.gr_top.specs.AnswerView.{made};
 
 use crate::answer::{Answer, Refusal, WorldEnd};
 use crate::built::is_built;

@@ -5,7 +5,7 @@ use Rattle.gr_lang.specs.declared.action.Entry.{Entry}
 use Rattle.gr_lang.specs.States.{Task, trapped}
 use Rattle.gr_lang.specs.Histories.{final}
 use Rattle.gr_plain.specs.Held.{Held}
-use Rattle.gr_top.specs.Alone.{IsAlone}
+use Rattle.gr_top.specs.AloneWords.{IsAlone}
 use Rattle.gr_top.specs.Texts.{first_trap}
 
 pub record Comes (p : Program) (steps : ℕ) (held : Held) (history : List Entry) : Type 0 where
