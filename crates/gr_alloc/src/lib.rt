@@ -1,10 +1,12 @@
 //! The blocks of the heap: which are live, and where so many free words begin.
 #![tactic(auto)]
 
-pub mod blocks;
+mod blocks;
 #[cfg(test)]
 mod blocks_tests;
 mod cuts;
 mod holes;
 mod nodes;
 mod peaks;
+
+pub use blocks::Blocks;

@@ -1,4 +1,2 @@
-pub mod Lines
 pub mod Trees
 pub mod AtThing
-pub mod ThingSteps

@@ -1,4 +1,4 @@
-pub mod LineView
+pub mod Ranges
+-- For proofs and private functions.
 pub mod ThingView
-pub mod ThingCalls
 pub mod MemoryView

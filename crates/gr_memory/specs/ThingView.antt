@@ -1,19 +1,19 @@
--- The objects of a plain memory as the definitions see them, and which lie in how many words.
-use Rattle.std.specs.Prelude.{ℕ, ◌+◌, ◌≤◌, List, map, ⊤}
+-- What an object of the memory stands for, and the objects after a change of one of them.
+use Rattle.std.specs.Prelude.{ℕ, List, slice_get, slice_set, Option, Some, None}
 use Rattle.gr_lang.specs.Objects.{Object, array, keys, pairs, line}
-use Rattle.gr_memory.specs.declared.things.Thing.{Thing}
-use Rattle.gr_memory.specs.declared.things.Thing.TheVariants as code
+use Rattle.gr_memory.specs.declared.things.Held.{Held}
+use Rattle.gr_memory.specs.declared.things.Held.TheVariants as held
 
-abbrev pub thing_of : Thing → Object
-thing_of (code.Array from count) = array from count
-thing_of (code.Set held) = keys held
-thing_of (code.Map held) = pairs held
-thing_of (code.Vector held) = line held
+abbrev pub object_of : Held → Object
+object_of (held.Array from count) = array from count
+object_of (held.Set its) = keys its
+object_of (held.Map its) = pairs its
+object_of (held.Vector its) = line its
 
-abbrev pub things_of : List Thing → List Object
-things_of = map thing_of
+abbrev pub with_changed : List Object → ℕ → (Object → Object) → Option Object → List Object
+with_changed objects number change None = objects
+with_changed objects number change (Some object) = slice_set objects number (change object)
 
--- An array lies in the first n words; other objects hold none of them.
-abbrev pub LiesIn : ℕ → Thing → Type 0
-LiesIn n (code.Array from count) = from + count ≤ n
-LiesIn n _ = ⊤
+-- The objects with the one of this number changed, where there is one.
+abbrev pub changed_at : List Object → ℕ → (Object → Object) → List Object
+changed_at objects number change = with_changed objects number change (slice_get objects number)

@@ -1,12 +1,11 @@
 //! The plain memory: words in arrays and the heap, sets, maps, vectors and the live blocks.
-ghost use Rattle.std.specs.Prelude.{◌≡◌, ◌+◌, ◌≤◌, ◌<◌, ◌^◌, ℕ, All, IfOk, IfSome, OnOk, length, slice_index, slice_set};
+ghost use Rattle.std.specs.Prelude.{◌≡◌, ◌+◌, ◌≤◌, ◌<◌, ◌^◌, All, IfOk, IfSome, OnErr, OnOk, length, slice_index, slice_set};
 ghost use Rattle.std.specs.FinMap as fin;
 ghost use Rattle.gr_lang.specs.Objects as spec;
-ghost use Rattle.gr_memory.specs.ThingCalls.{word_after, things_after, things_reply};
-ghost use Rattle.gr_memory.specs.ThingView.{things_of, LiesIn};
+ghost use Rattle.gr_memory.specs.Ranges.{LiesIn};
 
-use crate::things::{Thing, apply_at, nothing, one, reduced, reply_of, whether};
-use gr_alloc::blocks::Blocks;
+use crate::things::{Thing, affect_at, change_line_at};
+use gr_alloc::Blocks;
 use gr_lang::{Op, Reply};
 use gr_syntax::HEAP;
 use std::alloc::{AllocError, Global};
@@ -51,7 +50,12 @@ impl Memory {
         requires arrays { All (LiesIn (length words.items)) things.items }
         requires heap { heap_from + heap_count ≤ length words.items }
         requires small { heap_count ≤ 2 ^ 24 }
-        ensures { IfOk result (λ memory. memory ≡ record { words = words.items; things = things_of things.items; heap = record { from = heap_from; count = heap_count }; live = fin.empty }) }
+        ensures { IfOk result (λ memory. memory ≡ record {
+          words = words.items;
+          things = things.items;
+          heap = record { from = heap_from; count = heap_count };
+          live = fin.empty;
+        }) }
     {
         let blocks = Blocks::new(alloc, heap_from, heap_count)?;
         Ok(Memory {
@@ -68,20 +72,15 @@ impl Memory {
         ensures within { IfSome result (λ at. at < length self.now.words) }
     {
         if object == HEAP {
-            if self.blocks.contains(place) {
-                return Some(place as usize);
-            }
-            return None;
+            return if self.blocks.contains(place) {
+                Some(place as usize)
+            } else {
+                None
+            };
         }
         match self.things.get(object as usize) {
-            Some(Thing::Array { from, count }) => {
-                if place < *count {
-                    Some((*from + place) as usize)
-                } else {
-                    None
-                }
-            }
-            _ => None,
+            Some(thing) => thing.address(place).map(|at| at as usize),
+            None => None,
         }
     }
 
@@ -106,38 +105,51 @@ impl Memory {
     {
         match op {
             Op::Read { object, place }
+            | Op::Write { object, place, .. }
             | Op::Add { object, place, .. }
             | Op::Cas { object, place, .. }
-            | Op::Reduce { object, place, .. } => self.word_reply(object, place),
-            Op::Insert { object, .. }
-            | Op::Remove { object, .. }
-            | Op::Has { object, .. }
-            | Op::Put { object, .. }
-            | Op::Get { object, .. }
-            | Op::Erase { object, .. }
-            | Op::Merge { object, .. }
-            | Op::Pop { object }
-            | Op::Dequeue { object } => self.thing_reply(object, op),
+            | Op::Reduce { object, place, .. } => self.word_reply(object, place, op),
+            Op::Insert { object, key }
+            | Op::Remove { object, key }
+            | Op::Has { object, key }
+            | Op::Put { object, key, .. }
+            | Op::Get { object, key }
+            | Op::Erase { object, key }
+            | Op::Merge { object, key, .. } => self.key_reply(object, key, op),
+            Op::Push { object, .. } | Op::Pop { object } | Op::Dequeue { object } => {
+                self.line_reply(object, op)
+            }
             Op::Alloc { count } => self.alloc_reply(count),
             Op::Free { place } => self.free_reply(place),
-            Op::Write { .. } | Op::Push { .. } | Op::Print { .. } => nothing(),
+            Op::Print { .. } => Reply::nothing(),
         }
     }
 
-    /// The word before a call at it.
-    fn word_reply(&self, object: u64, place: u64) -> Reply
-        ensures { (f : ℕ → ℕ) → result ≡ (spec.on_word self.now object place f).1 }
+    fn word_reply(&self, object: u64, place: u64, op: Op) -> Reply
+        ensures { result ≡ (spec.on_word object place op self.now).1 }
     {
         match self.address(object, place) {
-            Some(at) => one(self.word(at)),
-            None => nothing(),
+            Some(at) => op.word_reply(self.word(at)),
+            None => Reply::nothing(),
         }
     }
 
-    fn thing_reply(&self, object: u64, op: Op) -> Reply
-        ensures { result ≡ things_reply op self.now.things object }
+    fn key_reply(&self, object: u64, key: u64, op: Op) -> Reply
+        ensures { result ≡ (spec.on_object object (spec.on_key key op) self.now).1 }
     {
-        reply_of(&self.things, object, op)
+        match self.things.get(object as usize) {
+            Some(thing) => op.key_reply(thing.under(key)),
+            None => Reply::nothing(),
+        }
+    }
+
+    fn line_reply(&self, object: u64, op: Op) -> Reply
+        ensures { result ≡ (spec.on_object object (spec.on_line op) self.now).1 }
+    {
+        match self.things.get(object as usize) {
+            Some(thing) => thing.line_reply(op),
+            None => Reply::nothing(),
+        }
     }
 
     /// The least start of a free block of `count` words in the heap.
@@ -148,41 +160,44 @@ impl Memory {
     }
 
     fn alloc_reply(&self, count: u64) -> Reply
-        ensures { result ≡ (spec.alloc_at (spec.start_for self.now count) self.now count).1 }
+        ensures { result ≡ (spec.alloc_at (spec.start_for self.now count) count self.now).1 }
     {
         match self.start_for(count) {
-            Some(start) => one(start),
-            None => one(u64::MAX),
+            Some(start) => Reply::one(start),
+            None => Reply::one(u64::MAX),
         }
     }
 
     fn free_reply(&self, place: u64) -> Reply
-        ensures { result ≡ (spec.free_at self.now place).1 }
+        ensures { result ≡ (spec.free_at place self.now).1 }
     {
-        whether(self.blocks.is_live(place))
+        Reply::whether(self.blocks.is_live(place))
     }
 
-    /// Makes a call. `Err` when memory runs out: then nothing more is known of what the memory holds.
-    #[tactic(auto, using(crate::proofs::ThingSteps::thing_steps))]
+    /// Makes a call. Unchanged where there is no memory.
     pub fn apply(&mut self, op: Op) -> Result<(), AllocError>
-        ensures { OnOk result (self.new ≡ (spec.call op self.old).0) }
+        ensures ok { OnOk result (self.new ≡ (spec.call op self.old).0) }
+        ensures err { OnErr result (self.new ≡ self.old) }
     {
         match op {
-            Op::Write { object, place, .. }
+            Op::Read { object, place }
+            | Op::Write { object, place, .. }
             | Op::Add { object, place, .. }
             | Op::Cas { object, place, .. }
             | Op::Reduce { object, place, .. } => {
                 self.change_word(object, place, op);
                 Ok(())
             }
-            Op::Insert { object, .. }
-            | Op::Remove { object, .. }
-            | Op::Put { object, .. }
-            | Op::Erase { object, .. }
-            | Op::Merge { object, .. }
-            | Op::Push { object, .. }
-            | Op::Pop { object }
-            | Op::Dequeue { object } => self.change_thing(object, op),
+            Op::Insert { object, key }
+            | Op::Remove { object, key }
+            | Op::Has { object, key }
+            | Op::Put { object, key, .. }
+            | Op::Get { object, key }
+            | Op::Erase { object, key }
+            | Op::Merge { object, key, .. } => self.change_key(object, key, op),
+            Op::Push { object, .. } | Op::Pop { object } | Op::Dequeue { object } => {
+                self.change_line(object, op)
+            }
             Op::Alloc { count } => {
                 self.alloc(count);
                 Ok(())
@@ -191,48 +206,44 @@ impl Memory {
                 self.free(place);
                 Ok(())
             }
-            Op::Read { .. } | Op::Has { .. } | Op::Get { .. } | Op::Print { .. } => Ok(()),
+            Op::Print { .. } => Ok(()),
         }
     }
 
-    /// Makes a call that writes a word, where the object has the place.
     fn change_word(&mut self, object: u64, place: u64, op: Op)
-        ensures { self.new ≡ (spec.on_word self.old object place (word_after op)).0 }
+        ensures { self.new ≡ (spec.on_word object place op self.old).0 }
     {
         if let Some(at) = self.address(object, place) {
             let before = self.word(at);
-            self.set_word(at, changed_word(op, before));
+            self.set_word(at, op.word_after(before));
         }
     }
 
-    fn change_thing(&mut self, object: u64, op: Op) -> Result<(), AllocError>
-        ensures { OnOk result (self.new ≡ record self.old { things = things_after op self.old.things object }) }
+    fn change_key(&mut self, object: u64, key: u64, op: Op) -> Result<(), AllocError>
+        ensures ok { OnOk result
+            (self.new ≡ (spec.on_object object (spec.on_key key op) self.old).0) }
+        ensures err { OnErr result (self.new ≡ self.old) }
     {
-        apply_at(&mut self.things, object, op)
+        affect_at(&mut self.things, object, key, op.effect())
+    }
+
+    fn change_line(&mut self, object: u64, op: Op) -> Result<(), AllocError>
+        ensures ok { OnOk result
+            (self.new ≡ (spec.on_object object (spec.on_line op) self.old).0) }
+        ensures err { OnErr result (self.new ≡ self.old) }
+    {
+        change_line_at(&mut self.things, object, op)
     }
 
     fn alloc(&mut self, count: u64)
-        ensures { self.new ≡ (spec.alloc_at (spec.start_for self.old count) self.old count).0 }
+        ensures { self.new ≡ (spec.alloc_at (spec.start_for self.old count) count self.old).0 }
     {
         self.blocks.alloc(count);
     }
 
     fn free(&mut self, place: u64)
-        ensures { self.new ≡ (spec.free_at self.old place).0 }
+        ensures { self.new ≡ (spec.free_at place self.old).0 }
     {
         self.blocks.free(place);
-    }
-}
-
-/// The word after a call at it.
-fn changed_word(op: Op, before: u64) -> u64
-    ensures { result ≡ word_after op before }
-{
-    match op {
-        Op::Write { word, .. } => word,
-        Op::Add { word, .. } => before.wrapping_add(word),
-        Op::Cas { old, new, .. } => { if before == old { new } else { before } }
-        Op::Reduce { reducer, word, .. } => reduced(reducer, before, word),
-        _ => before,
     }
 }

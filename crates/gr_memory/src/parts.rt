@@ -1,9 +1,10 @@
 //! The parts of a plain memory that grow and shrink: sets, maps and vectors of words.
-ghost use Rattle.std.specs.Prelude.{◌≡◌, ◌∷◌, ◌++◌, [], OnOk, not, is_some};
+ghost use Rattle.std.specs.Prelude.{◌≡◌, [], OnErr, OnOk};
 ghost use Rattle.std.specs.FinSet as set;
 ghost use Rattle.std.specs.FinMap as fin;
-ghost use Rattle.gr_memory.specs.LineView.{last_of, but_last_of, first_of, rest_of};
+ghost use Rattle.gr_lang.specs.Effects as spec;
 
+use gr_lang::{Op, Reply};
 use std::alloc::{AllocError, Global};
 use std::collections::{BTreeMap, BTreeSet, VecDeque};
 use std::marker::Model;
@@ -50,9 +51,10 @@ impl Keys {
         self.tree.len()
     }
 
-    /// Adds a word. `Err` when memory runs out.
+    /// Adds a word. Unchanged where there is no memory.
     pub fn insert(&mut self, key: u64) -> Result<(), AllocError>
-        ensures { OnOk result (self.new ≡ set.insert self.old key) }
+        ensures ok { OnOk result (self.new ≡ set.insert self.old key) }
+        ensures err { OnErr result (self.new ≡ self.old) }
     {
         self.tree.insert(key)?;
         Ok(())
@@ -102,9 +104,10 @@ impl Pairs {
         self.tree.get(&key).copied()
     }
 
-    /// Puts a word at a key. `Err` when memory runs out.
+    /// Puts a word at a key. Unchanged where there is no memory.
     pub fn put(&mut self, key: u64, word: u64) -> Result<(), AllocError>
-        ensures { OnOk result (self.new ≡ fin.insert self.old key word) }
+        ensures ok { OnOk result (self.new ≡ fin.insert self.old key word) }
+        ensures err { OnErr result (self.new ≡ self.old) }
     {
         self.tree.insert(key, word)?;
         Ok(())
@@ -142,44 +145,34 @@ impl Line {
         }
     }
 
-    /// The first word, if there is one.
-    pub fn first(&self) -> Option<u64>
-        ensures { result ≡ first_of self.now }
+    /// What the list replies to a call.
+    pub fn reply(&self, op: Op) -> Reply
+        ensures { result ≡ spec.line_reply op self.now }
     {
-        self.words.front().copied()
-    }
-
-    /// The last word, if there is one.
-    #[tactic(auto, using(crate::proofs::Lines::lines))]
-    pub fn last(&self) -> Option<u64>
-        ensures { result ≡ last_of self.now }
-    {
-        match self.words.back() {
-            Some(word) => Some(*word),
-            None => None,
+        match op {
+            Op::Pop { .. } => Reply::found(self.words.back().copied()),
+            Op::Dequeue { .. } => Reply::found(self.words.front().copied()),
+            _ => Reply::nothing(),
         }
     }
 
-    /// Puts a word behind the others. `Err` when memory runs out.
-    pub fn push(&mut self, word: u64) -> Result<(), AllocError>
-        ensures { OnOk result (self.new ≡ self.old ++ word ∷ []) }
+    /// Makes a call. Unchanged where there is no memory.
+    pub fn change(&mut self, op: Op) -> Result<(), AllocError>
+        ensures ok { OnOk result (self.new ≡ spec.line_after op self.old) }
+        ensures err { OnErr result (self.new ≡ self.old) }
     {
-        self.words.push_back(word)?;
+        match op {
+            Op::Push { word, .. } => {
+                self.words.push_back(word)?;
+            }
+            Op::Pop { .. } => {
+                self.words.pop_back();
+            }
+            Op::Dequeue { .. } => {
+                self.words.pop_front();
+            }
+            _ => (),
+        }
         Ok(())
-    }
-
-    /// Takes the last word out, if there is one.
-    #[tactic(auto, using(crate::proofs::Lines::lines))]
-    pub fn pop(&mut self)
-        ensures { self.new ≡ but_last_of self.old }
-    {
-        self.words.pop_back();
-    }
-
-    /// Takes the first word out, if there is one.
-    pub fn dequeue(&mut self)
-        ensures { self.new ≡ rest_of self.old }
-    {
-        self.words.pop_front();
     }
 }
