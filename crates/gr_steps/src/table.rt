@@ -1,14 +1,15 @@
 //! The tables of a program, made once as a run opens: its objects and tasks by name and by number.
-ghost use Rattle.std.specs.Prelude.{◌≡◌, IfOk, is_some, map, slice_get};
+ghost use Rattle.std.specs.Prelude.{◌≡◌, IfOk, is_some, position, slice_get};
+ghost use Rattle.std.specs.Str.{bytes_eq};
 ghost use Rattle.gr_lang.specs.Objects.{address, heap_address};
-ghost use Rattle.gr_syntax.specs.Items.{tasks_of};
+ghost use Rattle.gr_syntax.specs.Items.{object_names, task_named, tasks_of};
 ghost use Rattle.gr_lang.specs.Openings.{heap_of, object_of, opening, target_of};
-ghost use Rattle.gr_steps.specs.TableView.{IsHeap, knowns_of, number_from, reaches_of, row_of, within};
+ghost use Rattle.gr_steps.specs.HeapRanges.{IsHeap};
+ghost use Rattle.gr_steps.specs.TableView.{knowns_of, reaches_of, row_of, within};
 ghost use Rattle.std.specs.Option.{option_map};
 
 use crate::listing::{object_names_of, reaches_in, task_rows};
-use gr_syntax::HEAP;
-use gr_syntax::{Block, Program, Text};
+use gr_syntax::{Block, HEAP, Program, Text};
 use std::alloc::{AllocError, Global};
 use std::marker::Model;
 
@@ -54,17 +55,18 @@ impl<'a> Model for Table<'a> {
     ghost invariant = { IsTable };
 }
 
-fn number_of(tasks: &[TaskRow], name: &Text) -> u64
-    ensures { result ≡ number_from 0 (map row_of tasks.now) name.now }
+/// The place of the name among these.
+fn place_of(names: &[&Text], name: &Text) -> Option<usize>
+    ensures { result ≡ position (λ other. bytes_eq name.now other.now) names.now }
 {
-    let mut at = 0;
-    for row in tasks {
-        if name.is(row.name) {
-            return at;
-        }
-        at += 1;
-    }
-    0
+    names.iter().position(|other| name.is(other))
+}
+
+/// The number of the task of this name, if there is one.
+fn number_of(tasks: &[TaskRow], name: &Text) -> Option<usize>
+    ensures { result ≡ position (λ task. bytes_eq name.now task.name.now) tasks.now }
+{
+    tasks.iter().position(|task| name.is(task.name))
 }
 
 impl<'a> Table<'a> {
@@ -90,21 +92,24 @@ impl<'a> Table<'a> {
         })
     }
 
-    /// The number of the object of that name; 255 for the heap.
+    fn place(&self, name: &Text) -> Option<usize>
+        ensures { result ≡ position (bytes_eq name.now) (object_names self.now.items) }
+    {
+        place_of(self.objects.as_slice(), name)
+    }
+
+    /// The number of the object of that name, 255 for the heap; 0 where there is none.
     pub fn object_of(&self, name: &Text) -> u64
         ensures { result ≡ object_of self.now name.now }
     {
         if name.is_word("heap") {
             return HEAP;
         }
-        let mut at = 0;
-        for other in &self.objects {
-            if name.is(other) {
-                return at;
-            }
-            at += 1;
+        let place = self.place(name);
+        match place {
+            Some(place) => place as u64,
+            None => 0,
         }
-        at
     }
 
     /// The task of that number.
@@ -114,11 +119,21 @@ impl<'a> Table<'a> {
         self.tasks.get(target as usize)
     }
 
+    fn number(&self, name: &Text) -> Option<usize>
+        ensures { result ≡ task_named self.now name.now }
+    {
+        number_of(self.tasks.as_slice(), name)
+    }
+
     /// The number of the task of that name; 0 where there is none.
     pub fn target_of(&self, name: &Text) -> u64
         ensures { result ≡ target_of self.now name.now }
     {
-        number_of(self.tasks.as_slice(), name)
+        let number = self.number(name);
+        match number {
+            Some(number) => number as u64,
+            None => 0,
+        }
     }
 
     fn is_in_heap(&self, place: u64) -> bool
