@@ -1,15 +1,14 @@
 -- The objects and tasks of a program by name and by number, and how its tasks start.
-use Rattle.std.proofs.Common.{◌≡◌, ℕ, ◌+◌, Bool, List, [], ◌∷◌, Option, Some, None, refl, sym, ap, ◌∙◌, cond, true, false, slice_get}
+use Rattle.std.proofs.Common.{◌≡◌, ℕ, ◌+◌, Bool, List, [], ◌∷◌, Some, None, refl, sym, ◌∙◌, cond, true, false, slice_get}
 use Rattle.std.specs.Prelude.{position, map}
 use Rattle.std.specs.List.{position_from}
 use Rattle.std.specs.Option.{option_map}
-use Rattle.std.specs.Str.{bytes_eq}
 use Rattle.std.proofs.lemmas.Iterator.Adapters.{position_from-zero}
 use Rattle.std.proofs.lemmas.Option.{slice_get-map}
 use Rattle.gr_syntax.specs.declared.syntax.Program.{Program}
-use Rattle.gr_syntax.specs.Items.{TaskText, tasks_of}
+use Rattle.gr_syntax.specs.Items.{tasks_of}
 use Rattle.gr_lang.specs.Next.{start, start_at}
-use Rattle.gr_steps.specs.TableView.{Known, known_of, knowns_of, started}
+use Rattle.gr_steps.specs.TableView.{known_of, knowns_of, started}
 
 position_from-map : {A B : Type 0} (p : B → Bool) (f : A → B) (xs : List A) (k : ℕ) → position_from p k (map f xs) ≡ position_from (λ x. p (f x)) k xs
 position_from-map p f [] k = refl

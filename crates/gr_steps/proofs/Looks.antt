@@ -1,5 +1,5 @@
 -- What stands first, where it is a print or a loop.
-use Rattle.std.proofs.Common.{◌≡◌, ℕ, Option, List, [], ◌∷◌, refl, ap}
+use Rattle.std.proofs.Common.{◌≡◌, ℕ, Option, List, ◌∷◌, refl, ap}
 use Rattle.gr_lang.proofs.Opens.{out-Print, out-Forall}
 use Rattle.gr_syntax.specs.declared.syntax.Program.{Program}
 use Rattle.gr_syntax.specs.declared.syntax.Expr.{Expr}

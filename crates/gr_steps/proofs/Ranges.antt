@@ -1,5 +1,5 @@
 -- A loop's bounds, its grain and its arguments, evaluated as one list.
-use Rattle.std.proofs.Common.{◌≡◌, ℕ, List, [], ◌∷◌, Option, Some, None, refl}
+use Rattle.std.proofs.Common.{◌≡◌, ℕ, List, ◌∷◌, Option, Some, None, refl}
 use Rattle.std.specs.Option.{option_map, option_and_then}
 use Rattle.gr_lang.specs.Locals.{Locals}
 use Rattle.gr_lang.specs.Expressions.{value, values}

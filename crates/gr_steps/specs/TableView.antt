@@ -5,7 +5,6 @@ use Rattle.gr_steps.specs.HeapRanges.{IsHeap}
 use Rattle.gr_steps.specs.declared.table.Table.TheInside.{Inside}
 use Rattle.gr_syntax.specs.declared.syntax.Item.{Item}
 use Rattle.gr_syntax.specs.declared.syntax.Item.TheVariants as i
-use Rattle.gr_syntax.specs.declared.syntax.Number.{Number}
 use Rattle.gr_syntax.specs.declared.syntax.Stmt.{Stmt}
 use Rattle.gr_syntax.specs.Items.{TaskText, object_names, tasks_of}
 use Rattle.gr_lang.specs.Next.{Running, given, lets_of, runs}

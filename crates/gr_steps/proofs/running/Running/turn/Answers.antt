@@ -1,4 +1,4 @@
-use Rattle.std.proofs.Common.{◌≡◌, ℕ, List, Option, ◌∷◌, ◌∙◌, sym, ap, refl}
+use Rattle.std.proofs.Common.{ℕ, List, Option, ◌∷◌, ◌∙◌, sym, ap, refl}
 use Rattle.gr_lang.specs.declared.action.Action.{Action}
 use Rattle.gr_lang.specs.Expressions.{values}
 use Rattle.gr_lang.specs.Next.{run, acts, print_action}
