@@ -11,7 +11,7 @@ use gr_accept::Accepted;
 use gr_syntax::{Fault, Kind};
 use gr_syntax::{Place, Program};
 use gr_parse::{ParseError, parse};
-use gr_text::token::Tokens;
+use gr_text::Tokens;
 use gr_text::{TextError, place, tokens};
 use std::alloc::{AllocError, Global};
 

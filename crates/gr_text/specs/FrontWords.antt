@@ -5,7 +5,7 @@ use Rattle.gr_text.specs.declared.front.Front.TheVariants as fronts
 use Rattle.gr_text.specs.declared.token.TokenKind.TheVariants as kinds
 use Rattle.gr_text.specs.declared.token.Sign.{Sign}
 use Rattle.gr_text.specs.declared.token.Sign.TheVariants.{LeftParen, RightParen, LeftBrace, RightBrace, LeftBracket, RightBracket, Semicolon, Comma, Dot, DotDot, Assign, EqualEqual, BangEqual, Less, LessEqual, Greater, GreaterEqual, Plus, Minus, Star, Slash, Percent, Ampersand, Bar, Caret, Bang}
-use Rattle.gr_syntax.specs.Names.{most_name}
+use Rattle.gr_syntax.specs.declared.limits.TheConstants.{MAX_NAME}
 use Rattle.gr_text.specs.Text.{Text, IsLongest, Fits, BeginsNoToken, blank_len}
 
 -- The sign of one byte.
@@ -26,9 +26,15 @@ front_sign [] = None
 front_sign (a ∷ []) = single_sign a
 front_sign (a ∷ b ∷ rest) = or_else (double_sign a b) (single_sign a)
 
+-- The text isn't empty, and its first byte is such a one.
+abbrev pub HasHead : (ℕ → Type 0) → Text → Type 0
+HasHead P [] = ⊥
+HasHead P (byte ∷ rest) = P byte
+
+-- What stands at the front of this text.
 abbrev pub IsFront : Front → Text → Type 0
 IsFront (fronts.Blank len) text = (0 < len) × (len ≤ length text) × (len ≡ blank_len text)
 IsFront (fronts.Token kind len) text = IsLongest kind len text × Fits kind len
 IsFront fronts.TooWide text = (n len : ℕ) × IsLongest (kinds.Number n) len text × (2 ^ 64 ≤ n)
-IsFront fronts.TooLong text = (len : ℕ) × IsLongest kinds.Name len text × (most_name < len)
+IsFront fronts.TooLong text = (len : ℕ) × IsLongest kinds.Name len text × (MAX_NAME < len)
 IsFront fronts.Bad text = (0 < length text) × (blank_len text ≡ 0) × BeginsNoToken text
