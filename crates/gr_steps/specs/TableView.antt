@@ -6,22 +6,21 @@ use Rattle.gr_steps.specs.declared.table.Table.TheInside.{Inside}
 use Rattle.gr_syntax.specs.declared.syntax.Item.{Item}
 use Rattle.gr_syntax.specs.declared.syntax.Item.TheVariants as i
 use Rattle.gr_syntax.specs.declared.syntax.Stmt.{Stmt}
-use Rattle.gr_syntax.specs.Items.{TaskText, object_names, tasks_of}
+use Rattle.gr_syntax.specs.Items.{TaskText, tasks_of}
 use Rattle.gr_lang.specs.Next.{Running, given, lets_of, runs}
 
--- A task of the text, with the names of its locals.
+-- A task of the text: the names of its locals, and its body.
 pub record Known : Type 0 where
-  pub name : List ℕ
   pub locals : List (List ℕ)
   pub body : List Stmt
 
 -- A task of the table.
 abbrev pub row_of : TaskRow → Known
-row_of r = record { name = r.name.now; locals = map (λ n. n.now) r.locals.items; body = r.body.now }
+row_of r = record { locals = map (λ n. n.now) r.locals.items; body = r.body.now }
 
 -- A task with its locals: its parameters, then what its body gives.
 abbrev pub known_of : TaskText → Known
-known_of t = record { name = t.name; locals = t.params ++ lets_of t.body; body = t.body }
+known_of t = record { locals = t.params ++ lets_of t.body; body = t.body }
 
 -- The tasks in their order.
 abbrev pub knowns_of : List TaskText → List Known
@@ -48,7 +47,6 @@ within (Some reach) place = nat_lt place reach
 
 -- The tables are those of the program.
 pub record IsTable (t : Inside) : Type 0 where
-  pub objects : map (λ n. n.now) t.objects.items ≡ object_names t.program.now.items
-  pub reaches : t.reaches.items ≡ reaches_of t.program.now.items
-  pub tasks : map row_of t.tasks.items ≡ knowns_of (tasks_of t.program.now.items)
-  pub heap : IsHeap t.heap t.program.now
+  pub reaches : t.reaches.items ≡ reaches_of t.names.items
+  pub tasks : map row_of t.tasks.items ≡ knowns_of (tasks_of t.names.items)
+  pub heap : IsHeap t.heap t.names

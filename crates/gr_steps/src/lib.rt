@@ -8,6 +8,5 @@ mod locals;
 mod running;
 mod table;
 
-pub use listing::object_names_of;
 pub use running::Running;
 pub use table::{HeapRange, Table};
