@@ -6,3 +6,5 @@ pub mod Changed
 pub mod LiveMap
 pub mod Least
 pub mod Starts
+pub mod Apart
+pub mod Whole

@@ -90,23 +90,32 @@ off_hole sizes holes o j are hole full some =
     (cases_eq j o))
     (cases_lt j o)
 
+-- a live block is a piece of the cut that is no hole
+pub live_piece : (start : ℕ) (sizes holes : List ℕ) (at words : ℕ) → map.get (live_below start sizes holes (length sizes)) at ≡ Some words
+    → (k : ℕ) × (at ≡ start + k) × (slice_index holes k ≡ 0) × (slice_index sizes k ≡ words) × (0 < words)
+live_piece start sizes holes at words is =
+    let live = live_below start sizes holes (length sizes) in
+    ⊎_elim
+    (λ low. absurd (let e = get_outside start sizes holes (length sizes) at (inl low) in cc))
+    (λ rest. ⊎_elim
+    (λ high. absurd (let e = get_outside start sizes holes (length sizes) at (inr high) in cc))
+    (λ place.
+    let block = block_is sizes holes place.0 words (sym (get_place start sizes holes (length sizes) place.0 place.2) ∙ sym (ap (map.get live) place.1) ∙ is) in
+    (place.0, place.1, block.0, block.1, block.2))
+    rest)
+    (where_is start (length sizes) at)
+
 pub free_in_hole : (start : ℕ) (sizes holes : List ℕ) (n o : ℕ) → AreHoles sizes holes → 0 < n → n ≤ slice_index holes o → is_free (live_below start sizes holes (length sizes)) (start + o) n ≡ true
 free_in_hole start sizes holes n o are some fits =
     let live = live_below start sizes holes (length sizes) in
-    free_by live (start + o) n (λ k w is. ⊎_elim
-    (λ low. absurd (let e = get_outside start sizes holes (length sizes) k (inl low) in cc))
-    (λ rest. ⊎_elim
-    (λ high. absurd (let e = get_outside start sizes holes (length sizes) k (inr high) in cc))
-    (λ place.
-    let j = place.0 in
-    let block = block_is sizes holes j w (sym (get_place start sizes holes (length sizes) j place.2) ∙ sym (ap (map.get live) place.1) ∙ is) in
+    free_by live (start + o) n (λ k w is.
+    let piece = live_piece start sizes holes k w is in
+    let j = piece.0 in
     clear_either (start + o + n) k (k + w) (start + o)
     (⊎_elim
-    (λ behind. inl (omega (arith, place.1)))
-    (λ before. inr (omega (arith, place.1, block.1)))
-    (off_hole sizes holes o j are (omega arith) block.0 (omega (arith, block.1, block.2)))))
-    rest)
-    (where_is start (length sizes) k))
+    (λ behind. inl (omega (arith, piece.1)))
+    (λ before. inr (omega (arith, piece.1, piece.3)))
+    (off_hole sizes holes o j are (omega arith) piece.2 (omega (arith, piece.3, piece.4)))))
 
 taken_block : (start : ℕ) (sizes holes : List ℕ) (n p k : ℕ) → slice_index holes k ≡ 0 → 0 < slice_index sizes k → k < length sizes → k < p + n → p < k + slice_index sizes k → is_free (live_below start sizes holes (length sizes)) (start + p) n ≡ false
 taken_block start sizes holes n p k full some inside low high =

@@ -1,4 +1,5 @@
 pub mod HeapBlocks
+-- For proofs and private functions.
 pub mod BlockView
 pub mod PeakView
 pub mod CutView

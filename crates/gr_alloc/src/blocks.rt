@@ -2,7 +2,7 @@
 ghost use Rattle.std.specs.Prelude.{◌≡◌, ◌+◌, ◌<◌, ◌≤◌, ◌^◌, ◌&&◌, ℕ, IfOk, IfSome, None, is_some, length, nat_le, nat_lt, slice_index};
 ghost use Rattle.std.specs.FinMap as fin;
 ghost use Rattle.gr_lang.specs.Objects.{start_in};
-ghost use Rattle.gr_alloc.specs.HeapBlocks.{with_block};
+ghost use Rattle.gr_alloc.specs.HeapBlocks.{LieApart, LieInside, with_block};
 ghost use Rattle.gr_alloc.specs.HoleView.{AreHoles, first_hole, live_at, place_in};
 
 use crate::cuts::Cuts;
@@ -97,7 +97,10 @@ impl Blocks {
     pub fn new(alloc: Global, start: u64, words: u64) -> Result<Blocks, AllocError>
         requires small { words ≤ 2 ^ 24 }
         requires fits { start + words < 2 ^ 64 }
-        ensures { IfOk result (λ blocks. blocks ≡ record { heap = record { from = start; count = words }; live = fin.empty }) }
+        ensures { IfOk result (λ blocks. blocks ≡ record {
+          heap = record { from = start; count = words };
+          live = fin.empty;
+        }) }
     {
         let (cuts, holes) = one_hole(alloc, words as usize)?;
         Ok(Blocks { start, cuts, holes })
@@ -105,7 +108,8 @@ impl Blocks {
 
     /// Whether the address is one of the heap's.
     pub fn contains(&self, at: u64) -> bool
-        ensures { result ≡ (nat_le self.now.heap.from at && nat_lt at (self.now.heap.from + self.now.heap.count)) }
+        ensures { result ≡ (nat_le self.now.heap.from at
+            && nat_lt at (self.now.heap.from + self.now.heap.count)) }
     {
         self.start <= at && at < self.start + self.cuts.len() as u64
     }
@@ -136,9 +140,12 @@ impl Blocks {
         }
     }
 
-    /// Whether a live block starts at the address.
+    /// Whether a live block starts at the address. The live blocks lie in the heap, and no two have a word
+    /// in common.
     pub fn is_live(&self, at: u64) -> bool
-        ensures { result ≡ is_some (fin.get self.now.live at) }
+        ensures value { result ≡ is_some (fin.get self.now.live at) }
+        ensures inside { LieInside self.now }
+        ensures apart { LieApart self.now }
     {
         match place_of(&self.cuts, self.start, at) {
             Some(place) => is_block(&self.cuts, &self.holes, place),

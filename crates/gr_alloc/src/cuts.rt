@@ -23,13 +23,15 @@ impl Model for Cuts {
     ghost invariant = { IsCuts };
 }
 
-/// Puts a number at the first place, if there is one.
-fn put_first(numbers: &mut [u32], number: u32)
-    ensures { numbers.new ≡ slice_set numbers.old 0 number }
+/// Zeros, but for a number at one place, where there is that place. `Err` when memory runs out.
+fn zeros_but(alloc: Global, count: usize, at: usize, number: u32) -> Result<Vec<u32>, AllocError>
+    ensures { IfOk result (λ numbers. numbers.items ≡ slice_set (replicate count 0) at number) }
 {
-    if let Some(first) = numbers.first_mut() {
-        *first = number;
+    let mut numbers = vec![in alloc; 0; count]?;
+    if at < count {
+        numbers[at] = number;
     }
+    Ok(numbers)
 }
 
 impl Cuts {
@@ -41,10 +43,8 @@ impl Cuts {
         ensures value { IfOk result (λ cuts. cuts ≡ slice_set (replicate words 0) 0 words) }
         ensures cut { IfOk result (λ cuts. IsCut cuts) }
     {
-        let mut sizes = vec![in alloc; 0; words]?;
-        let mut ends = vec![in alloc; 0; words + 1]?;
-        put_first(&mut sizes, words as u32);
-        ends[words] = words as u32;
+        let sizes = zeros_but(alloc, words, 0, words as u32)?;
+        let ends = zeros_but(alloc, words + 1, words, words as u32)?;
         Ok(Cuts { sizes, ends })
     }
 
@@ -69,7 +69,8 @@ impl Cuts {
         requires { end ≤ length self.now }
         ensures inside { result ≤ end }
         ensures starts { 0 < result → slice_index self.now (end - result) ≡ result }
-        ensures found { (at : ℕ) → 0 < slice_index self.now at → at + slice_index self.now at ≡ end → result ≡ slice_index self.now at }
+        ensures found { (at : ℕ) → 0 < slice_index self.now at
+            → at + slice_index self.now at ≡ end → result ≡ slice_index self.now at }
     {
         self.ends[end]
     }

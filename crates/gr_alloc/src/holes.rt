@@ -30,7 +30,8 @@ fn grow_behind(cuts: &mut Cuts, holes: &mut Peaks, at: usize)
     ensures len { length cuts.new ≡ length cuts.old }
     ensures block { IsBlock cuts.new holes.new at }
     ensures behind { NoHoleBehind cuts.new holes.new at }
-    ensures live { (k : ℕ) → k ≢ at → live_at cuts.new holes.new k ≡ live_at cuts.old holes.old k }
+    ensures live { (k : ℕ) → k ≢ at
+        → live_at cuts.new holes.new k ≡ live_at cuts.old holes.old k }
 {
     let end = at + cuts.size(at) as usize;
     if end < cuts.len() && holes.get(end) > 0 {
@@ -52,7 +53,8 @@ fn grow_before(cuts: &mut Cuts, holes: &mut Peaks, at: usize) -> usize
     ensures before { NoHoleBefore holes.new result }
     ensures gone { result ≢ at → live_at cuts.new holes.new at ≡ None }
     ensures hole { result ≢ at → live_at cuts.old holes.old result ≡ None }
-    ensures live { (k : ℕ) → k ≢ at → k ≢ result → live_at cuts.new holes.new k ≡ live_at cuts.old holes.old k }
+    ensures live { (k : ℕ) → k ≢ at → k ≢ result
+        → live_at cuts.new holes.new k ≡ live_at cuts.old holes.old k }
 {
     let start = at - cuts.size_before(at) as usize;
     if holes.get(start) == 0 {

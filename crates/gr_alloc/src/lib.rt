@@ -2,8 +2,6 @@
 #![tactic(auto)]
 
 mod blocks;
-#[cfg(test)]
-mod blocks_tests;
 mod cuts;
 mod holes;
 mod nodes;

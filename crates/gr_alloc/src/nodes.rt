@@ -8,7 +8,8 @@ pub(crate) fn set_leaf(tree: &mut [u32], levels: u32, leaf: usize, number: u32)
     requires leaf { 2 ^ levels ≤ leaf }
     requires inside { leaf < length tree.old }
     ensures is_tree { IsTree tree.new levels }
-    ensures leaves { drop (2 ^ levels) tree.new ≡ drop (2 ^ levels) (slice_set tree.old leaf number) }
+    ensures leaves { drop (2 ^ levels) tree.new
+        ≡ drop (2 ^ levels) (slice_set tree.old leaf number) }
 {
     tree[leaf] = number;
     let mut node = leaf;
@@ -25,7 +26,8 @@ pub(crate) fn first_leaf(tree: &[u32], levels: u32, need: u32) -> usize
     ensures leaf { 2 ^ levels ≤ result }
     ensures inside { result < length tree.now }
     ensures found { need ≤ slice_index tree.now result }
-    ensures first { (k : ℕ) → 2 ^ levels ≤ k → k < result → slice_index tree.now k < need }
+    ensures first { (k : ℕ) → 2 ^ levels ≤ k → k < result
+        → slice_index tree.now k < need }
 {
     let mut node = 1;
     'descending: for _ in 0..levels {
