@@ -5,11 +5,11 @@ use Rattle.std.specs.Str.Parse.{digits_value}
 use Rattle.clap.proofs.WalkLemmas.{both}
 use Rattle.clap.specs.Words.{Row, Text, first_of, matches_of}
 use Rattle.gr_cli.specs.Arguments.{simple_command}
-use Rattle.gr_cli.specs.Numbers as number
 use Rattle.gr_cli.specs.Numbers.{IsOneOf, contains, is_numeral, number_in}
 use Rattle.gr_cli.specs.Options.{IsWithinLimits, is_refused, options_of}
 use Rattle.gr_cli.specs.Values.{command_of, given, kind_of, number_of, values_of}
 use Rattle.gr_cli.specs.declared.numbers.Numbers.{Numbers}
+use Rattle.gr_cli.specs.declared.numbers.TheConstants.{BLOCK, CORES, EVENTS, LIMIT, SEED, SIZE, SLICE, STEPS}
 use Rattle.gr_cli.specs.declared.settings.Options.{Options}
 
 -- Equal options hold equal values.
@@ -51,15 +51,15 @@ pub values_are_within : (rows : List Row) (o : Options) → values_of rows ≡ S
 values_are_within rows o h =
     let word : Text → Option Text = λ name. first_of name rows in
     given-within (command_of (word (codes "command"))) _ o h (λ command h.
-    number-within number.cores (word (codes "cores")) _ o (omega arith, omega arith) h (λ cores few_cores h.
-    number-within number.block (word (codes "block")) _ o (omega arith, omega arith) h (λ block short_block h.
-    number-within number.limit (word (codes "limit")) _ o (omega arith, omega arith) h (λ limit low_limit h.
-    number-within number.steps (word (codes "steps")) _ o (omega arith, omega arith) h (λ steps few_steps h.
-    number-within number.slice (word (codes "slice")) _ o (omega arith, omega arith) h (λ slice short_slice h.
-    number-within number.events (word (codes "events")) _ o (omega arith, omega arith) h (λ events few_events h.
+    number-within CORES (word (codes "cores")) _ o (omega arith, omega arith) h (λ cores few_cores h.
+    number-within BLOCK (word (codes "block")) _ o (omega arith, omega arith) h (λ block short_block h.
+    number-within LIMIT (word (codes "limit")) _ o (omega arith, omega arith) h (λ limit low_limit h.
+    number-within STEPS (word (codes "steps")) _ o (omega arith, omega arith) h (λ steps few_steps h.
+    number-within SLICE (word (codes "slice")) _ o (omega arith, omega arith) h (λ slice short_slice h.
+    number-within EVENTS (word (codes "events")) _ o (omega arith, omega arith) h (λ events few_events h.
     given-within (kind_of (word (codes "kind"))) _ o h (λ kind h.
-    number-within number.size (word (codes "size")) _ o (omega arith, omega arith) h (λ size small_size h.
-    number-within number.seed (word (codes "seed")) _ o (omega arith, omega arith) h (λ seed seed_word h.
+    number-within SIZE (word (codes "size")) _ o (omega arith, omega arith) h (λ size small_size h.
+    number-within SEED (word (codes "seed")) _ o (omega arith, omega arith) h (λ seed seed_word h.
     subst IsWithinLimits (some-same h) (record {
       few_cores = few_cores;
       short_block = short_block;

@@ -4,9 +4,16 @@ ghost use Rattle.std.specs.Char.{is_ascii_digit};
 ghost use Rattle.std.specs.List.{list_all};
 ghost use Rattle.gr_cli.specs.Numbers as spec;
 
-/// The numbers that an option takes, and the one that it has where the words give none.
+/// The greatest number of cores of a run.
+const MAX_CORES: u64 = 16;
+
+/// The greatest limit of pure steps between two actions of a task.
+const MAX_STEPS: u64 = 1 << 40;
+
+/// The numbers that an option takes.
 #[derive(Clone, Copy)]
 pub struct Numbers {
+    /// The one that the option has where the words give none.
     pub default: u64,
     pub least: u64,
     pub most: u64,
@@ -24,10 +31,10 @@ impl Numbers {
 pub const CORES: Numbers = Numbers {
     default: 4,
     least: 1,
-    most: 16,
+    most: MAX_CORES,
 };
 
-/// The words of a block.
+/// The words of a block, which lie at one core.
 pub const BLOCK: Numbers = Numbers {
     default: 8,
     least: 1,
@@ -41,14 +48,14 @@ pub const LIMIT: Numbers = Numbers {
     most: 256,
 };
 
-/// The most pure steps between two actions.
+/// The most pure steps of a task between two of its actions.
 pub const STEPS: Numbers = Numbers {
     default: 1000000,
     least: 1,
-    most: 1 << 40,
+    most: MAX_STEPS,
 };
 
-/// The most events of a core in a round.
+/// The most events of a core in one round.
 pub const SLICE: Numbers = Numbers {
     default: 1024,
     least: 1,
