@@ -7,7 +7,7 @@ use Rattle.clap.specs.declared.error.kind.ErrorKind.TheVariants as fault
 use Rattle.clap.specs.declared.parser.matches.ArgMatches.{ArgMatches}
 use Rattle.clap.proofs.OnLiterals.{clap_on_literals}
 use Rattle.gr_cli.specs.Arguments.{simple_command}
-use Rattle.gr_cli.specs.MatchWords.{IsMatchOf, refusal_of}
+use Rattle.gr_cli.specs.ClapWords.{IsMatchOf, refusal_of}
 use Rattle.gr_cli.specs.Options.{has_some, is_refused}
 use Rattle.gr_cli.specs.declared.error.OptionsError.TheVariants as error
 

@@ -4,4 +4,4 @@ pub mod Options
 pub mod Rows
 pub mod Values
 -- For proofs and private functions.
-pub mod MatchWords
+pub mod ClapWords

@@ -2,7 +2,7 @@
 use Rattle.std.specs.Prelude.{Bool, true, false, List, [], ◌∷◌, Option, None, if◌then◌else◌}
 use Rattle.clap.specs.Words.{Kinds, Text, fault_of, matches_of}
 use Rattle.gr_cli.specs.Arguments.{simple_command}
-use Rattle.gr_cli.specs.Numbers.{IsOneOf}
+use Rattle.gr_cli.specs.Numbers.{IsWithin}
 use Rattle.gr_cli.specs.Values.{values_of}
 use Rattle.gr_cli.specs.declared.numbers.TheConstants.{BLOCK, CORES, EVENTS, LIMIT, SEED, SIZE, SLICE, STEPS}
 use Rattle.gr_cli.specs.declared.settings.Options.{Options}
@@ -20,13 +20,13 @@ is_refused words = has_some (fault_of simple_command words)
 unfoldable pub options_of : List Text → Option Options
 options_of words = if is_refused words then None else values_of (matches_of simple_command words)
 
--- Each number is one that its option takes.
+-- Each number is within the bounds of its option.
 pub record IsWithinLimits (options : Options) : Type 0 where
-  pub few_cores : IsOneOf CORES options.cores
-  pub short_block : IsOneOf BLOCK options.block
-  pub low_limit : IsOneOf LIMIT options.limit
-  pub few_steps : IsOneOf STEPS options.steps
-  pub short_slice : IsOneOf SLICE options.slice
-  pub few_events : IsOneOf EVENTS options.events
-  pub small_size : IsOneOf SIZE options.size
-  pub seed_word : IsOneOf SEED options.seed
+  pub few_cores : IsWithin CORES options.cores
+  pub short_block : IsWithin BLOCK options.block
+  pub low_limit : IsWithin LIMIT options.limit
+  pub few_steps : IsWithin STEPS options.steps
+  pub short_slice : IsWithin SLICE options.slice
+  pub few_events : IsWithin EVENTS options.events
+  pub small_size : IsWithin SIZE options.size
+  pub seed_word : IsWithin SEED options.seed

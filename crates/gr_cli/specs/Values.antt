@@ -4,7 +4,7 @@ use Rattle.std.specs.Str.{bytes_eq}
 use Rattle.clap.specs.Words.{Row, Text, first_of}
 use Rattle.gr_cli.specs.Numbers.{number_in}
 use Rattle.gr_cli.specs.declared.numbers.TheConstants.{BLOCK, CORES, EVENTS, LIMIT, SEED, SIZE, SLICE, STEPS}
-use Rattle.gr_cli.specs.declared.numbers.Numbers.{Numbers}
+use Rattle.gr_cli.specs.declared.numbers.Bounds.{Bounds}
 use Rattle.gr_cli.specs.declared.settings.BenchKind.{BenchKind}
 use Rattle.gr_cli.specs.declared.settings.BenchKind.TheVariants.{Words, Sets, Queue}
 use Rattle.gr_cli.specs.declared.settings.Command.{Command}
@@ -12,9 +12,9 @@ use Rattle.gr_cli.specs.declared.settings.Command.TheVariants.{Run, Check, Repla
 use Rattle.gr_cli.specs.declared.settings.Options.{Options}
 
 -- The number of an option, by its word if it has one.
-abbrev pub number_of : Numbers → Option Text → Option ℕ
-number_of numbers None = Some numbers.default
-number_of numbers (Some text) = number_in numbers text
+abbrev pub number_of : Bounds → Option Text → Option ℕ
+number_of bounds None = Some bounds.default
+number_of bounds (Some text) = number_in bounds text
 
 -- A flag is used where its word is `true`: `clap` gives that word to a flag that is used, and `false` to any other.
 abbrev pub is_used : Option Text → Bool

@@ -1,7 +1,8 @@
 //! The simple command of `clap` that reads the words.
-ghost use Rattle.std.specs.Prelude.{◌≡◌, All, IfOk, codes, false, map};
+ghost use Rattle.std.specs.Prelude.{◌≡◌, All, IfOk, map};
 ghost use Rattle.clap.specs.Words.{app_of, rule_of};
 ghost use Rattle.gr_cli.specs.Arguments as spec;
+ghost use Rattle.gr_cli.specs.ClapWords.{IsOwn};
 
 use clap::{Arg, ArgAction, Command};
 use std::alloc::{AllocError, Global};
@@ -9,7 +10,7 @@ use std::alloc::{AllocError, Global};
 /// The required argument that is a word by itself.
 fn positional<'a>(alloc: Global, name: &'a str) -> Arg<'a>
     ensures rule { rule_of result ≡ spec.positional name.entry.now }
-    ensures own { result.global ≡ false }
+    ensures own { IsOwn result }
 {
     Arg::new(alloc, name).required(true).action(ArgAction::Set)
 }
@@ -17,7 +18,7 @@ fn positional<'a>(alloc: Global, name: &'a str) -> Arg<'a>
 /// The option `--name` with one value.
 fn option<'a>(alloc: Global, name: &'a str) -> Arg<'a>
     ensures rule { rule_of result ≡ spec.option name.entry.now }
-    ensures own { result.global ≡ false }
+    ensures own { IsOwn result }
 {
     Arg::new(alloc, name).long(name).action(ArgAction::Set)
 }
@@ -25,7 +26,7 @@ fn option<'a>(alloc: Global, name: &'a str) -> Arg<'a>
 /// The flag `--name`.
 fn flag<'a>(alloc: Global, name: &'a str) -> Arg<'a>
     ensures rule { rule_of result ≡ spec.flag name.entry.now }
-    ensures own { result.global ≡ false }
+    ensures own { IsOwn result }
 {
     Arg::new(alloc, name).long(name).action(ArgAction::SetTrue)
 }
@@ -33,7 +34,7 @@ fn flag<'a>(alloc: Global, name: &'a str) -> Arg<'a>
 /// All arguments of the command.
 fn arguments<'a>(alloc: Global) -> Result<Vec<Arg<'a>>, AllocError>
     ensures rules { IfOk result (λ arguments. map rule_of arguments.items ≡ spec.arguments) }
-    ensures own { IfOk result (λ arguments. All (λ argument. argument.global ≡ false) arguments.items) }
+    ensures own { IfOk result (λ arguments. All IsOwn arguments.items) }
 {
     Ok(vec![in alloc;
         positional(alloc, "command"),
@@ -51,8 +52,8 @@ fn arguments<'a>(alloc: Global) -> Result<Vec<Arg<'a>>, AllocError>
     ]?)
 }
 
-/// The command without arguments: its words don't begin with a program's name, and nothing is added for
-/// help or a version.
+/// The command without arguments: its words don't begin with a program's name, and nothing is added
+/// for help or a version.
 fn bare_command<'a>(alloc: Global) -> Command<'a>
     ensures { app_of result ≡ spec.bare_command }
 {
