@@ -1,10 +1,11 @@
 -- The cut of the heap into pieces, one behind the other. At the place where a piece starts stands its number of words, at the other places 0.
-use Rattle.std.specs.Prelude.{◌≡◌, ℕ, ◌+◌, ◌-◌, ◌<◌, ◌≤◌, ◌^◌, List, length, slice_index, slice_set}
+use Rattle.std.specs.Prelude.{◌≡◌, ℕ, ◌+◌, ◌-◌, ◌<◌, ◌≤◌, List, length, slice_index, slice_set}
 use Rattle.gr_alloc.specs.declared.cuts.Cuts.TheInside.{Inside}
+use Rattle.gr_syntax.specs.declared.limits.TheConstants.{MAX_WORDS}
 
 -- The pieces cover all places, at most 2^24 of them, and no two overlap.
 pub record IsCut (sizes : List ℕ) : Type 0 where
-  pub few : length sizes ≤ 2 ^ 24
+  pub few : length sizes ≤ MAX_WORDS
   pub begins : 0 < length sizes → 0 < slice_index sizes 0
   pub within : (at : ℕ) → 0 < slice_index sizes at → at + slice_index sizes at ≤ length sizes
   pub alone : (at k : ℕ) → at < k → k < at + slice_index sizes at → slice_index sizes k ≡ 0

@@ -1,5 +1,6 @@
 //! The heap with its live blocks.
 ghost use Rattle.std.specs.Prelude.{◌≡◌, ◌+◌, ◌<◌, ◌≤◌, ◌^◌, ◌&&◌, ℕ, IfOk, IfSome, None, is_some, length, nat_le, nat_lt, slice_index};
+ghost use Rattle.gr_syntax.specs.declared.limits.TheConstants.{MAX_WORDS};
 ghost use Rattle.std.specs.FinMap as fin;
 ghost use Rattle.gr_lang.specs.Objects.{start_in};
 ghost use Rattle.gr_alloc.specs.HeapBlocks.{LieApart, LieInside, with_block};
@@ -80,7 +81,7 @@ fn is_block(cuts: &Cuts, holes: &Peaks, at: usize) -> bool
 
 /// One hole of so many words. `Err` when memory runs out.
 fn one_hole(alloc: Global, words: usize) -> Result<(Cuts, Peaks), AllocError>
-    requires { words ≤ 2 ^ 24 }
+    requires { words ≤ MAX_WORDS }
     ensures holes { IfOk result (λ pieces. AreHoles pieces.0 pieces.1) }
     ensures len { IfOk result (λ pieces. length pieces.0 ≡ words) }
     ensures free { IfOk result (λ pieces. (k : ℕ) → live_at pieces.0 pieces.1 k ≡ None) }
@@ -95,7 +96,7 @@ impl Blocks {
     /// A heap of so many words, at most 2^24, from the address `start` on. No block is live. `Err` when
     /// memory runs out.
     pub fn new(alloc: Global, start: u64, words: u64) -> Result<Blocks, AllocError>
-        requires small { words ≤ 2 ^ 24 }
+        requires small { words ≤ MAX_WORDS }
         requires fits { start + words < 2 ^ 64 }
         ensures { IfOk result (λ blocks. blocks ≡ record {
           heap = record { from = start; count = words };

@@ -1,5 +1,6 @@
 //! The heap cut into pieces, with the piece that starts and the one that ends at each place.
 ghost use Rattle.std.specs.Prelude.{◌≡◌, ◌+◌, ◌-◌, ◌<◌, ◌≤◌, ◌^◌, ℕ, IfOk, length, replicate, slice_index, slice_set};
+ghost use Rattle.gr_syntax.specs.declared.limits.TheConstants.{MAX_WORDS};
 
 use std::alloc::{AllocError, Global};
 use std::marker::Model;
@@ -39,7 +40,7 @@ impl Cuts {
 
     /// One piece of so many words. `Err` when memory runs out.
     pub fn new(alloc: Global, words: usize) -> Result<Cuts, AllocError>
-        requires { words ≤ 2 ^ 24 }
+        requires { words ≤ MAX_WORDS }
         ensures value { IfOk result (λ cuts. cuts ≡ slice_set (replicate words 0) 0 words) }
         ensures cut { IfOk result (λ cuts. IsCut cuts) }
     {

@@ -1,5 +1,6 @@
 //! Numbers by their places, with the first that is at least so great found in few steps.
 ghost use Rattle.std.specs.Prelude.{◌≡◌, ◌+◌, ◌*◌, ◌<◌, ◌≤◌, ◌^◌, IfOk, length, nat_le, position, replicate, slice_index, slice_set};
+ghost use Rattle.gr_syntax.specs.declared.limits.TheConstants.{MAX_WORDS};
 
 use crate::nodes::{first_leaf, set_leaf};
 use std::alloc::{AllocError, Global};
@@ -28,7 +29,7 @@ impl Model for Peaks {
 impl Peaks {
     /// Zeros, at least so many, and at least one. `Err` when memory runs out.
     pub fn new(alloc: Global, count: usize) -> Result<Peaks, AllocError>
-        requires { count ≤ 2 ^ 24 }
+        requires { count ≤ MAX_WORDS }
         ensures enough { IfOk result (λ peaks. count ≤ length peaks) }
         ensures some { IfOk result (λ peaks. 0 < length peaks) }
         ensures zeros { IfOk result (λ peaks. peaks ≡ replicate (length peaks) 0) }

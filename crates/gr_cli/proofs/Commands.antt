@@ -7,7 +7,8 @@ use Rattle.clap.specs.declared.error.kind.ErrorKind.TheVariants as fault
 use Rattle.clap.specs.declared.parser.matches.ArgMatches.{ArgMatches}
 use Rattle.clap.proofs.OnLiterals.{clap_on_literals}
 use Rattle.gr_cli.specs.Arguments.{simple_command}
-use Rattle.gr_cli.specs.Options.{IsMatchOf, has_some, is_refused, refusal_of}
+use Rattle.gr_cli.specs.ClapWords.{IsMatchOf, refusal_of}
+use Rattle.gr_cli.specs.Options.{has_some, is_refused}
 use Rattle.gr_cli.specs.declared.error.OptionsError.TheVariants as error
 
 simple_command_is_simple : is_simple simple_command ≡ true

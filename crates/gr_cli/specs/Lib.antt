@@ -3,3 +3,5 @@ pub mod Numbers
 pub mod Options
 pub mod Rows
 pub mod Values
+-- For proofs and private functions.
+pub mod ClapWords

@@ -1,5 +1,5 @@
--- Worked rows: how the words of a line are written in one text, and the options that a row compares with.
-use Rattle.std.specs.Prelude.{◌≡◌, ◌==◌, ◌^◌, true, false, List, None, Some}
+-- Worked rows: the words of a line that is written as one text, and what a row says of them.
+use Rattle.std.specs.Prelude.{◌≡◌, ◌==◌, ◌^◌, Bool, true, false, List, Option, None, Some}
 use Rattle.std.specs.List.{slice_split}
 use Rattle.clap.specs.Words.{Text}
 use Rattle.gr_cli.specs.Options.{is_refused, options_of}
@@ -28,14 +28,18 @@ run_options = record {
   seed = 1;
 }
 
--- The words give these options.
-abbrev pub GivesOptions : List Text → Options → Type 0
-GivesOptions words options = options_of words ≡ Some options
+-- The words of the line give these options.
+abbrev pub GivesOptions : Text → Options → Type 0
+GivesOptions text options = options_of (line text) ≡ Some options
 
--- `clap` refuses the words, so they give no options.
-abbrev pub IsRefusedByClap : List Text → Type 0
-IsRefusedByClap words = (is_refused words ≡ true) × (options_of words ≡ None)
+-- Whether `clap` refuses the words, and the options that they give.
+abbrev pub answer_to : List Text → Bool × Option Options
+answer_to words = (is_refused words, options_of words)
 
--- `clap` takes the words, but one of them is no value of its argument, so they give no options.
-abbrev pub HasFaultyValue : List Text → Type 0
-HasFaultyValue words = (is_refused words ≡ false) × (options_of words ≡ None)
+-- `clap` refuses the words of the line, so they give no options.
+abbrev pub IsRefusedByClap : Text → Type 0
+IsRefusedByClap text = answer_to (line text) ≡ (true, None)
+
+-- `clap` takes the words of the line, but one of them is no value of its argument, so they give no options.
+abbrev pub HasFaultyValue : Text → Type 0
+HasFaultyValue text = answer_to (line text) ≡ (false, None)

@@ -2,9 +2,9 @@
 use Rattle.std.specs.Prelude.{ℕ, Bool, false, List, [], ◌∷◌, Option, Some, None, codes, find, option_and_then}
 use Rattle.std.specs.Str.{bytes_eq}
 use Rattle.clap.specs.Words.{Row, Text, first_of}
-use Rattle.gr_cli.specs.Numbers as number
 use Rattle.gr_cli.specs.Numbers.{number_in}
-use Rattle.gr_cli.specs.declared.numbers.Numbers.{Numbers}
+use Rattle.gr_cli.specs.declared.numbers.TheConstants.{BLOCK, CORES, EVENTS, LIMIT, SEED, SIZE, SLICE, STEPS}
+use Rattle.gr_cli.specs.declared.numbers.Bounds.{Bounds}
 use Rattle.gr_cli.specs.declared.settings.BenchKind.{BenchKind}
 use Rattle.gr_cli.specs.declared.settings.BenchKind.TheVariants.{Words, Sets, Queue}
 use Rattle.gr_cli.specs.declared.settings.Command.{Command}
@@ -12,9 +12,9 @@ use Rattle.gr_cli.specs.declared.settings.Command.TheVariants.{Run, Check, Repla
 use Rattle.gr_cli.specs.declared.settings.Options.{Options}
 
 -- The number of an option, by its word if it has one.
-abbrev pub number_of : Numbers → Option Text → Option ℕ
-number_of numbers None = Some numbers.default
-number_of numbers (Some text) = number_in numbers text
+abbrev pub number_of : Bounds → Option Text → Option ℕ
+number_of bounds None = Some bounds.default
+number_of bounds (Some text) = number_in bounds text
 
 -- A flag is used where its word is `true`: `clap` gives that word to a flag that is used, and `false` to any other.
 abbrev pub is_used : Option Text → Bool
@@ -30,7 +30,7 @@ command_word Bench = codes "bench"
 
 -- The command of that spelling.
 abbrev pub command_named : Text → Option Command
-command_named text = find (λ c. bytes_eq text (command_word c)) (Run ∷ Check ∷ Replay ∷ Bench ∷ [])
+command_named text = find (λ command. bytes_eq text (command_word command)) (Run ∷ Check ∷ Replay ∷ Bench ∷ [])
 
 -- The command of the positional's word.
 abbrev pub command_of : Option Text → Option Command
@@ -44,30 +44,30 @@ kind_word Queue = codes "queue"
 
 -- The kind of that spelling.
 abbrev pub kind_named : Text → Option BenchKind
-kind_named text = find (λ k. bytes_eq text (kind_word k)) (Words ∷ Sets ∷ Queue ∷ [])
+kind_named text = find (λ kind. bytes_eq text (kind_word kind)) (Words ∷ Sets ∷ Queue ∷ [])
 
 -- The kind of the option's word, if it has one.
 abbrev pub kind_of : Option Text → Option BenchKind
 kind_of None = Some Words
 kind_of (Some text) = kind_named text
 
--- What the value gives, if there is one: `given o (λ x. r)` reads `let x = o?; r`.
-abbrev pub given : {A B : Type 0} → Option A → (A → Option B) → Option B
+-- What the value gives, if there is one: `given read (λ value. rest)` reads `let value = read?; rest`.
+abbrev pub given : {Value Next : Type 0} → Option Value → (Value → Option Next) → Option Next
 given value next = option_and_then next value
 
 -- The options that the rows of the matches give, none where a word is no value of its option.
 abbrev pub values_of : List Row → Option Options
 values_of rows =
     given (command_of (first_of (codes "command") rows)) (λ command.
-    given (number_of number.cores (first_of (codes "cores") rows)) (λ cores.
-    given (number_of number.block (first_of (codes "block") rows)) (λ block.
-    given (number_of number.limit (first_of (codes "limit") rows)) (λ limit.
-    given (number_of number.steps (first_of (codes "steps") rows)) (λ steps.
-    given (number_of number.slice (first_of (codes "slice") rows)) (λ slice.
-    given (number_of number.events (first_of (codes "events") rows)) (λ events.
+    given (number_of CORES (first_of (codes "cores") rows)) (λ cores.
+    given (number_of BLOCK (first_of (codes "block") rows)) (λ block.
+    given (number_of LIMIT (first_of (codes "limit") rows)) (λ limit.
+    given (number_of STEPS (first_of (codes "steps") rows)) (λ steps.
+    given (number_of SLICE (first_of (codes "slice") rows)) (λ slice.
+    given (number_of EVENTS (first_of (codes "events") rows)) (λ events.
     given (kind_of (first_of (codes "kind") rows)) (λ kind.
-    given (number_of number.size (first_of (codes "size") rows)) (λ size.
-    given (number_of number.seed (first_of (codes "seed") rows)) (λ seed.
+    given (number_of SIZE (first_of (codes "size") rows)) (λ size.
+    given (number_of SEED (first_of (codes "seed") rows)) (λ seed.
     Some (record {
       command = command;
       cores = cores;

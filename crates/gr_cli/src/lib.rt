@@ -7,13 +7,12 @@ mod laws;
 mod numbers;
 mod rows;
 mod settings;
-#[cfg(test)]
-mod tests;
 mod values;
 mod words;
 
 pub use error::OptionsError;
 pub use laws::options_are_within_limits;
+pub use numbers::{BLOCK, Bounds, CORES, EVENTS, LIMIT, SEED, SIZE, SLICE, STEPS};
 pub use rows::{accepted_rows, faulty_value_rows, refused_rows};
 pub use settings::{BenchKind, Command, Options};
 pub use words::options;

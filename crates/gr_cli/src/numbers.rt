@@ -4,15 +4,18 @@ ghost use Rattle.std.specs.Char.{is_ascii_digit};
 ghost use Rattle.std.specs.List.{list_all};
 ghost use Rattle.gr_cli.specs.Numbers as spec;
 
-/// The numbers that an option takes, and the one that it has where the words give none.
+use gr_syntax::{MAX_CORES, MAX_STEPS};
+
+/// The least and the greatest number that an option takes, and the one that it has by default.
 #[derive(Clone, Copy)]
-pub struct Numbers {
+pub struct Bounds {
+    /// What the option is where the words don't give it.
     pub default: u64,
     pub least: u64,
     pub most: u64,
 }
 
-impl Numbers {
+impl Bounds {
     fn contains(self, value: u64) -> bool
         ensures { result ≡ spec.contains self value }
     {
@@ -21,56 +24,56 @@ impl Numbers {
 }
 
 /// The number of cores.
-pub const CORES: Numbers = Numbers {
+pub const CORES: Bounds = Bounds {
     default: 4,
     least: 1,
-    most: 16,
+    most: MAX_CORES,
 };
 
-/// The words of a block.
-pub const BLOCK: Numbers = Numbers {
+/// The words of a block, which lie at one core.
+pub const BLOCK: Bounds = Bounds {
     default: 8,
     least: 1,
     most: 4096,
 };
 
 /// The messages with which a packet is shipped at once.
-pub const LIMIT: Numbers = Numbers {
+pub const LIMIT: Bounds = Bounds {
     default: 32,
     least: 1,
     most: 256,
 };
 
-/// The most pure steps between two actions.
-pub const STEPS: Numbers = Numbers {
+/// The most pure steps of a task between two of its actions.
+pub const STEPS: Bounds = Bounds {
     default: 1000000,
     least: 1,
-    most: 1 << 40,
+    most: MAX_STEPS,
 };
 
-/// The most events of a core in a round.
-pub const SLICE: Numbers = Numbers {
+/// The most events of a core in one round.
+pub const SLICE: Bounds = Bounds {
     default: 1024,
     least: 1,
     most: 65536,
 };
 
 /// The clock of a core at which a run is ended.
-pub const EVENTS: Numbers = Numbers {
+pub const EVENTS: Bounds = Bounds {
     default: 1 << 40,
     least: 1,
     most: 1 << 40,
 };
 
 /// The indices of a loop of the program that `bench` makes.
-pub const SIZE: Numbers = Numbers {
+pub const SIZE: Bounds = Bounds {
     default: 1000,
     least: 1,
     most: 100000,
 };
 
 /// The seed of that program.
-pub const SEED: Numbers = Numbers {
+pub const SEED: Bounds = Bounds {
     default: 1,
     least: 0,
     most: u64::MAX,
@@ -90,9 +93,9 @@ fn is_numeral(text: &str) -> bool
     1 <= len && len <= 20 && has_only_digits(text)
 }
 
-/// The number that the text spells, if it is a numeral of one of these numbers.
-pub fn number_in(text: &str, numbers: Numbers) -> Option<u64>
-    ensures { result ≡ spec.number_in numbers text.now }
+/// The number that the text spells, if it is a numeral of a number within the bounds.
+pub fn number_in(text: &str, bounds: Bounds) -> Option<u64>
+    ensures { result ≡ spec.number_in bounds text.now }
 {
     if !is_numeral(text) {
         return None;
@@ -100,5 +103,5 @@ pub fn number_in(text: &str, numbers: Numbers) -> Option<u64>
     let Ok(value) = text.parse::<u64>() else {
         return None;
     };
-    numbers.contains(value).then_some(value)
+    bounds.contains(value).then_some(value)
 }

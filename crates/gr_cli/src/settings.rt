@@ -27,17 +27,17 @@ pub enum BenchKind {
 #[derive(Clone, Copy, Debug, PartialEq, Eq)]
 pub struct Options {
     pub command: Command,
-    /// The number of cores: 1 to 16, by default 4.
+    /// The number of cores, within `CORES`.
     pub cores: u64,
-    /// The words of a block, which lie at one core: 1 to 4096, by default 8.
+    /// The words of a block, which lie at one core, within `BLOCK`.
     pub block: u64,
-    /// The messages with which a packet is shipped at once: 1 to 256, by default 32.
+    /// The messages with which a packet is shipped at once, within `LIMIT`.
     pub limit: u64,
-    /// The most pure steps of a task between two of its actions: 1 to 2^40, by default 1000000.
+    /// The most pure steps of a task between two of its actions, within `STEPS`.
     pub steps: u64,
-    /// The most events of a core in one round: 1 to 65536, by default 1024.
+    /// The most events of a core in one round, within `SLICE`.
     pub slice: u64,
-    /// The clock of a core at which a run is ended: 1 to 2^40, by default 2^40.
+    /// The clock of a core at which a run is ended, within `EVENTS`.
     pub events: u64,
     /// Whether the history of a run is written.
     pub history: bool,
@@ -45,8 +45,8 @@ pub struct Options {
     pub counts: bool,
     /// Which program `bench` makes, by default `Words`.
     pub kind: BenchKind,
-    /// The indices of a loop of the program that `bench` makes: 1 to 100000, by default 1000.
+    /// The indices of a loop of the program that `bench` makes, within `SIZE`.
     pub size: u64,
-    /// The seed of that program: each `u64`, by default 1.
+    /// The seed of that program, within `SEED`.
     pub seed: u64,
 }

@@ -1,32 +1,33 @@
 //! The values of the matched words.
 ghost use Rattle.std.specs.Prelude.{◌≡◌, codes, option_map};
-ghost use Rattle.clap.specs.Words.{first_of, found_of, rows_of};
+ghost use Rattle.clap.specs.Words.{found_of, rows_of};
+ghost use Rattle.gr_cli.specs.ClapWords.{word_in};
 ghost use Rattle.gr_cli.specs.Values as spec;
 
-use crate::numbers::{BLOCK, CORES, EVENTS, LIMIT, Numbers, SEED, SIZE, SLICE, STEPS, number_in};
+use crate::numbers::{BLOCK, Bounds, CORES, EVENTS, LIMIT, SEED, SIZE, SLICE, STEPS, number_in};
 use crate::settings::{BenchKind, Command, Options};
 use clap::ArgMatches;
 
 /// The value of the first use of an argument, or its default.
 fn word_of<'a>(matches: &ArgMatches<'a>, name: &str) -> Option<&'a str>
-    ensures { option_map (λ word. word.now) result ≡ first_of name.now (rows_of (found_of matches.now)) }
+    ensures { option_map (λ word. word.now) result ≡ word_in matches.now name.now }
 {
     matches.get_str(name)
 }
 
 /// The number of this option, `None` where its word is no such number.
-fn number_of(matches: &ArgMatches, name: &str, numbers: Numbers) -> Option<u64>
-    ensures { result ≡ spec.number_of numbers (first_of name.now (rows_of (found_of matches.now))) }
+fn number_of(matches: &ArgMatches, name: &str, bounds: Bounds) -> Option<u64>
+    ensures { result ≡ spec.number_of bounds (word_in matches.now name.now) }
 {
     match word_of(matches, name) {
-        Some(word) => number_in(word, numbers),
-        None => Some(numbers.default),
+        Some(word) => number_in(word, bounds),
+        None => Some(bounds.default),
     }
 }
 
 /// Whether this flag is used.
 fn is_used(matches: &ArgMatches, name: &str) -> bool
-    ensures { result ≡ spec.is_used (first_of name.now (rows_of (found_of matches.now))) }
+    ensures { result ≡ spec.is_used (word_in matches.now name.now) }
 {
     word_of(matches, name).is_some_and(|word| word == "true")
 }
@@ -46,7 +47,7 @@ fn command_named(text: &str) -> Option<Command>
 
 /// The command of the positional.
 fn command_of(matches: &ArgMatches) -> Option<Command>
-    ensures { result ≡ spec.command_of (first_of (codes "command") (rows_of (found_of matches.now))) }
+    ensures { result ≡ spec.command_of (word_in matches.now (codes "command")) }
 {
     let word = word_of(matches, "command")?;
     command_named(word)
@@ -66,7 +67,7 @@ fn kind_named(text: &str) -> Option<BenchKind>
 
 /// The kind of program of the option, `None` where its word is no kind.
 fn kind_of(matches: &ArgMatches) -> Option<BenchKind>
-    ensures { result ≡ spec.kind_of (first_of (codes "kind") (rows_of (found_of matches.now))) }
+    ensures { result ≡ spec.kind_of (word_in matches.now (codes "kind")) }
 {
     match word_of(matches, "kind") {
         Some(word) => kind_named(word),

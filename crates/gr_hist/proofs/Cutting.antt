@@ -1,110 +1,75 @@
 -- Cutting a text at a byte, and a line into its fields.
-use Rattle.std.proofs.Common.{◌≡◌, ◌∙◌, ◌<◌, ◌≤◌, ◌==◌, ap, ap₂, refl, sym, ℕ, zero, suc, ◌+◌, Bool, true, false, not, List, [], ◌∷◌, ◌++◌, length, take, drop, Option, Some, None, unwrap_or, arith, cond, append-nil}
-use Rattle.std.proofs.lemmas.Bool.{eqb-true, ne_eqb, eq-eqb}
-use Rattle.std.specs.List.{prefix_len, join_with_byte, onto_first}
-use Rattle.std.proofs.lemmas.List.Splits.{slice_split-cons_yes, slice_split-cons_no}
+use Rattle.std.proofs.Common.{◌≡◌, ◌∙◌, ◌<◌, ◌≤◌, ◌==◌, ◌+◌, ap, ap₂, refl, sym, ℕ, Bool, true, false, List, [], ◌∷◌, ◌++◌, length, take, drop, get_or, Some, None, cond, All, nat_lt, arith}
+use Rattle.std.specs.List.{join_with_byte, list_all, position_or_len}
+use Rattle.std.proofs.lemmas.Bool.{eqb-true, ne_eqb, eq-eqb, lt-ltb, ltb-true}
+use Rattle.std.proofs.lemmas.Option.{cond_some}
+use Rattle.std.proofs.lemmas.List.{append_assoc, drop_at, get_or_append_left, get_or_at, length-append, length_push, take_at}
+use Rattle.std.proofs.lemmas.List.Elements.{All-append, All-cons, All-get_or, All-head, All-nil, All-tail, All-weaker}
+use Rattle.std.proofs.lemmas.List.Splits.{slice_split_at, slice_split_none}
+use Rattle.std.proofs.lemmas.List.Sums.{AllPass-from_list_all, passes_at_first, position_or_len_is, split_at_first}
 use Rattle.gr_hist.specs.Names.{Bytes}
-use Rattle.gr_hist.specs.Reading.{cut_at, onto_cut, parts_in}
+use Rattle.gr_hist.specs.FieldWords.{cut_at, fields_in}
 
--- Each byte is above c.
+-- Each byte is above the floor.
 abbrev pub Over : ℕ → Bytes → Type 0
-Over c [] = Unit {0}
-Over c (b ∷ bytes) = (c < b) × Over c bytes
+Over floor bytes = All (λ byte. floor < byte) bytes
 
-pub over_append : (c : ℕ) (x y : Bytes) → Over c x → Over c y → Over c (x ++ y)
-over_append c [] y p q = q
-over_append c (b ∷ x) y p q = (p.0, over_append c x y p.1 q)
+-- Each byte of each field is.
+abbrev pub EachOver : ℕ → List Bytes → Type 0
+EachOver floor fields = All (Over floor) fields
 
-pub over_weaker : (c k : ℕ) (x : Bytes) → c ≤ k → Over k x → Over c x
-over_weaker c k [] le p = tt
-over_weaker c k (b ∷ x) le p = (omega arith, over_weaker c k x le p.1)
+-- Bytes that are written out.
+pub over_test : (floor : ℕ) (bytes : Bytes) → list_all (nat_lt floor) bytes ≡ true → Over floor bytes
+over_test floor bytes h = All-weaker (λ byte. nat_lt floor byte ≡ true) (λ byte. floor < byte) (λ byte. ltb-true floor byte) bytes (AllPass-from_list_all (nat_lt floor) bytes h)
 
--- Before the first byte c stands what has no c.
-pub cut_only : (c : ℕ) (x y : Bytes) → Over c x → cut_at c (x ++ c ∷ y) ≡ Some (x, y)
-cut_only c [] y p = rw (eq-eqb c c refl) refl
-cut_only c (b ∷ x) y p = rw (ne_eqb b c (λ e. omega arith), cut_only c x y p.1) refl
+pub over_weaker : (low high : ℕ) → low ≤ high → (bytes : Bytes) → Over high bytes → Over low bytes
+over_weaker low high le bytes over = All-weaker (λ byte. high < byte) (λ byte. low < byte) (λ byte more. omega arith) bytes over
+
+pub each_weaker : (low high : ℕ) → low ≤ high → (fields : List Bytes) → EachOver high fields → EachOver low fields
+each_weaker low high le fields over = All-weaker (Over high) (Over low) (over_weaker low high le) fields over
+
+-- Before the first such byte stands what has none.
+len_over : (stop : ℕ) (front back : Bytes) → Over stop front → position_or_len (λ byte. byte == stop) (front ++ stop ∷ back) ≡ length front
+len_over stop front back over =
+    position_or_len_is (λ byte. byte == stop) (front ++ stop ∷ back) (length front) 0
+    (omega (arith, length-append front (stop ∷ back)))
+    (λ k less. ne_eqb (get_or (front ++ stop ∷ back) k 0) stop
+    (λ same. omega (arith, get_or_append_left front (stop ∷ back) 0 k less, All-get_or (λ byte. stop < byte) front k 0 less over, same)))
+    (λ more. eq-eqb (get_or (front ++ stop ∷ back) (length front) 0) stop (get_or_at front stop back 0 (length front) refl))
+
+behind : (stop : ℕ) (front back : Bytes) → drop (length front + 1) (front ++ stop ∷ back) ≡ back
+behind stop front back = ap (drop (length front + 1)) (sym (append_assoc front (stop ∷ []) back)) ∙ drop_at (front ++ stop ∷ []) back (length front + 1) (length_push front stop)
+
+pub cut_only : (stop : ℕ) (front back : Bytes) → Over stop front → cut_at stop (front ++ stop ∷ back) ≡ Some (front, back)
+cut_only stop front back over =
+    let text = front ++ stop ∷ back in
+    ap (λ (n : ℕ). cond (nat_lt n (length text)) (Some (take n text, drop (n + 1) text)) None) (len_over stop front back over)
+    ∙ ap (λ (b : Bool). cond b (Some (take (length front) text, drop (length front + 1) text)) None) (lt-ltb (length front) (length text) (omega (arith, length-append front (stop ∷ back))))
+    ∙ ap₂ (λ (x y : Bytes). Some (x, y)) (take_at front (stop ∷ back) (length front) refl) (behind stop front back)
 
 -- What is cut is the text.
-pub cut_found : (c : ℕ) (bs : Bytes) (x y : Bytes) → cut_at c bs ≡ Some (x, y) → bs ≡ x ++ c ∷ y
-cut_found c [] x y e = cc
-cut_found c (b ∷ bs) x y e = by (b == c) refl e (cut_found c bs)
-  where
-    by : (t : Bool) → (b == c) ≡ t → cond t (Some ([], bs)) (onto_cut b (cut_at c bs)) ≡ Some (x, y)
-        → ((u v : Bytes) → cut_at c bs ≡ Some (u, v) → bs ≡ u ++ c ∷ v) → b ∷ bs ≡ x ++ c ∷ y
-    by true same e rec =
-        let is : b ≡ c = eqb-true b c same in
-        let px : [] ≡ x = ap (λ (o : Option (Bytes × Bytes)). (unwrap_or o ([], [])).0) e in
-        let py : bs ≡ y = ap (λ (o : Option (Bytes × Bytes)). (unwrap_or o ([], [])).1) e in
-        rw (← px, ← py, is) refl
-    by false other e rec = on (cut_at c bs) refl e rec
-      where
-        on : (o : Option (Bytes × Bytes)) → cut_at c bs ≡ o → onto_cut b o ≡ Some (x, y)
-            → ((u v : Bytes) → cut_at c bs ≡ Some (u, v) → bs ≡ u ++ c ∷ v) → b ∷ bs ≡ x ++ c ∷ y
-        on None is e rec = cc
-        on (Some p) is e rec =
-            let px : b ∷ p.0 ≡ x = ap (λ (o : Option (Bytes × Bytes)). (unwrap_or o ([], [])).0) e in
-            let py : p.1 ≡ y = ap (λ (o : Option (Bytes × Bytes)). (unwrap_or o ([], [])).1) e in
-            rw (← px, ← py) (ap (λ l. b ∷ l) (rec p.0 p.1 is))
-
--- What the code finds: how many bytes stand before the first c.
-pub cut_here : (c : ℕ) (bs : Bytes) → prefix_len (λ b. not (b == c)) bs < length bs
-    → cut_at c bs ≡ Some (take (prefix_len (λ b. not (b == c)) bs) bs, drop (prefix_len (λ b. not (b == c)) bs + 1) bs)
-cut_here c [] lt = absurd (omega arith)
-cut_here c (b ∷ bs) lt = by (b == c) refl lt (cut_here c bs)
-  where
-    by : (t : Bool) → (b == c) ≡ t → cond (not t) (1 + prefix_len (λ x. not (x == c)) bs) 0 < suc (length bs)
-        → (prefix_len (λ x. not (x == c)) bs < length bs → cut_at c bs ≡ Some (take (prefix_len (λ x. not (x == c)) bs) bs, drop (prefix_len (λ x. not (x == c)) bs + 1) bs))
-        → cond t (Some ([], bs)) (onto_cut b (cut_at c bs))
-        ≡ Some (take (cond (not t) (1 + prefix_len (λ x. not (x == c)) bs) 0) (b ∷ bs), drop (cond (not t) (1 + prefix_len (λ x. not (x == c)) bs) 0 + 1) (b ∷ bs))
-    by true same lt rec = refl
-    by false other lt rec =
-        let k = prefix_len (λ x. not (x == c)) bs in
-        let one : suc k ≡ 1 + k = omega arith in
-        let two : suc (k + 1) ≡ 1 + k + 1 = omega arith in
-        ap (onto_cut b) (rec (omega arith)) ∙ ap₂ (λ (i j : ℕ). Some (take i (b ∷ bs), drop j (b ∷ bs))) one two
-
--- What the code finds where there is no c.
-pub cut_nowhere : (c : ℕ) (bs : Bytes) → length bs ≤ prefix_len (λ b. not (b == c)) bs → cut_at c bs ≡ None
-cut_nowhere c [] le = refl
-cut_nowhere c (b ∷ bs) le = by (b == c) refl le (cut_nowhere c bs)
-  where
-    by : (t : Bool) → (b == c) ≡ t → suc (length bs) ≤ cond (not t) (1 + prefix_len (λ x. not (x == c)) bs) 0
-        → (length bs ≤ prefix_len (λ x. not (x == c)) bs → cut_at c bs ≡ None) → cond t (Some ([], bs)) (onto_cut b (cut_at c bs)) ≡ None
-    by true same le rec = absurd (omega arith)
-    by false other le rec = ap (onto_cut b) (rec (omega arith))
-
-pub take_over : (k : ℕ) (xs : Bytes) → length xs ≤ k → take k xs ≡ xs
-take_over zero [] le = refl
-take_over (suc k) [] le = refl
-take_over zero (x ∷ xs) le = absurd (omega arith)
-take_over (suc k) (x ∷ xs) le = ap (λ l. x ∷ l) (take_over k xs (omega arith))
-
--- Each byte of each field is above c.
-abbrev pub EachOver : ℕ → List Bytes → Type 0
-EachOver c [] = Unit {0}
-EachOver c (p ∷ ps) = Over c p × EachOver c ps
-
-pub each_weaker : (c k : ℕ) (ps : List Bytes) → c ≤ k → EachOver k ps → EachOver c ps
-each_weaker c k [] le e = tt
-each_weaker c k (p ∷ ps) le e = (over_weaker c k p le e.0, each_weaker c k ps le e.1)
-
-pub each_append : (c : ℕ) (ps qs : List Bytes) → EachOver c ps → EachOver c qs → EachOver c (ps ++ qs)
-each_append c [] qs e f = f
-each_append c (p ∷ ps) qs e f = (e.0, each_append c ps qs e.1 f)
-
--- A field without a space is what stands before the first space.
-split_front : (x : Bytes) → Over 32 x → (rest : List Bytes) (y : Bytes) → parts_in y ≡ [] ∷ rest → parts_in (x ++ y) ≡ x ∷ rest
-split_front [] over rest y e = e
-split_front (b ∷ x) over rest y e =
-    slice_split-cons_no (λ b. b == 32) b (x ++ y) (ne_eqb b 32 (λ e. omega arith)) ∙ ap (onto_first b) (split_front x over.1 rest y e)
+pub cut_found : (stop : ℕ) (text front back : Bytes) → cut_at stop text ≡ Some (front, back) → text ≡ front ++ stop ∷ back
+cut_found stop text front back cut =
+    let n = position_or_len (λ (byte : ℕ). byte == stop) text in
+    let found = cond_some {A = Bytes × Bytes} (nat_lt n (length text)) (take n text, drop (n + 1) text) (front, back) cut in
+    let less : n < length text = ltb-true n (length text) found.0 in
+    let is_stop : get_or text n 0 ≡ stop = eqb-true (get_or text n 0) stop (passes_at_first (λ byte. byte == stop) text 0 less) in
+    split_at_first (λ byte. byte == stop) text 0 less
+    ∙ ap₂ (λ (halves : Bytes × Bytes) (byte : ℕ). halves.0 ++ byte ∷ halves.1) found.1 is_stop
 
 -- Fields without a space are what their line splits into.
-pub split_join : (p : Bytes) (ps : List Bytes) → Over 32 p → EachOver 32 ps → parts_in (join_with_byte 32 (p ∷ ps)) ≡ p ∷ ps
-split_join p [] over each = ap parts_in (sym (append-nil p)) ∙ split_front p over [] [] refl
-split_join p (q ∷ ps) over each =
-    split_front p over (q ∷ ps) (32 ∷ join_with_byte 32 (q ∷ ps)) (slice_split-cons_yes (λ b. b == 32) 32 (join_with_byte 32 (q ∷ ps)) refl ∙ ap (λ l. [] ∷ l) (split_join q ps each.0 each.1))
+no_space : (field : Bytes) → Over 32 field → All (λ byte. (byte == 32) ≡ false) field
+no_space field over = All-weaker (λ byte. 32 < byte) (λ byte. (byte == 32) ≡ false) (λ byte more. ne_eqb byte 32 (λ same. omega arith)) field over
 
-pub over_join : (ps : List Bytes) → EachOver 31 ps → Over 31 (join_with_byte 32 ps)
-over_join [] each = tt
-over_join (p ∷ []) each = each.0
-over_join (p ∷ q ∷ ps) each = over_append 31 p (32 ∷ join_with_byte 32 (q ∷ ps)) each.0 (omega arith, over_join (q ∷ ps) each.1)
+pub split_join : (field : Bytes) (fields : List Bytes) → EachOver 32 (field ∷ fields) → fields_in (join_with_byte 32 (field ∷ fields)) ≡ field ∷ fields
+split_join field [] over = slice_split_none (λ byte. byte == 32) field (no_space field (All-head (Over 32) field [] over))
+split_join field (next ∷ fields) over =
+    slice_split_at (λ byte. byte == 32) field 32 (join_with_byte 32 (next ∷ fields)) (no_space field (All-head (Over 32) field (next ∷ fields) over)) refl
+    ∙ ap (λ (rest : List Bytes). field ∷ rest) (split_join next fields (All-tail (Over 32) field (next ∷ fields) over))
+
+pub over_join : (fields : List Bytes) → EachOver 31 fields → Over 31 (join_with_byte 32 fields)
+over_join [] over = All-nil (λ byte. 31 < byte)
+over_join (field ∷ []) over = All-head (Over 31) field [] over
+over_join (field ∷ next ∷ fields) over =
+    All-append (λ byte. 31 < byte) field (32 ∷ join_with_byte 32 (next ∷ fields)) (All-head (Over 31) field (next ∷ fields) over)
+    (All-cons (λ byte. 31 < byte) 32 (join_with_byte 32 (next ∷ fields)) (omega arith) (over_join (next ∷ fields) (All-tail (Over 31) field (next ∷ fields) over)))

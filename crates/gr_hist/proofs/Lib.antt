@@ -3,7 +3,7 @@ pub mod Numerals
 pub mod NameBytes
 pub mod Wording
 pub mod Arguments
-pub mod Options
+pub mod Choices
 pub mod Tails
 pub mod Spelled
 pub mod Starting
@@ -14,5 +14,4 @@ pub mod Readings
 pub mod Trails
 pub mod Counts
 pub mod WrittenReads
-pub mod Examples
 pub mod Namables

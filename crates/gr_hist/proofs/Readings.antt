@@ -9,26 +9,26 @@ use Rattle.gr_hist.specs.declared.text.HistError.TheVariants as faults
 use Rattle.gr_hist.specs.declared.text.NamedEntry.{NamedEntry}
 use Rattle.gr_hist.specs.Names.{Bytes}
 use Rattle.gr_hist.specs.Grammar.{IsSameError, Lines, Outcome, ReadsLines, ReadsOnce, ReadsText, SaysError, with_front, with_header}
-use Rattle.gr_hist.specs.Lines.{IsHeaderAt, IsLineAt, IsNoHeader, IsNoLine, SaysLine, error_at}
-use Rattle.gr_hist.specs.Spelling.{line_of, parts_of}
+use Rattle.gr_hist.specs.LineWords.{IsHeaderAt, IsLineAt, IsNoHeader, IsNoLine, SaysLine, error_at}
+use Rattle.gr_hist.specs.Spelling.{line_of, fields_of}
 use Rattle.gr_hist.proofs.LineBytes.{entry_one, header_one}
 
 -- A line isn't empty.
-line_some : (ps : List Bytes) (rest : Bytes) → 0 < length (line_of ps ++ rest)
-line_some ps rest = omega (arith, length-append (line_of ps) rest, length-append (join_with_byte 32 ps) (10 ∷ []))
+line_some : (fields : List Bytes) (rest : Bytes) → 0 < length (line_of fields ++ rest)
+line_some fields rest = omega (arith, length-append (line_of fields) rest, length-append (join_with_byte 32 fields) (10 ∷ []))
 
-not_empty : (ps : List Bytes) (rest : Bytes) → [] ≢ line_of ps ++ rest
-not_empty ps rest e =
-    let none : 0 ≡ length (line_of ps ++ rest) = ap length e in
-    absurd (omega (arith, none, line_some ps rest))
+not_empty : (fields : List Bytes) (rest : Bytes) → [] ≢ line_of fields ++ rest
+not_empty fields rest e =
+    let none : 0 ≡ length (line_of fields ++ rest) = ap length e in
+    absurd (omega (arith, none, line_some fields rest))
 
 -- One reading.
 
 lines_one : (n : ℕ) (t u : Bytes) (r s : Lines) → t ≡ u → ReadsLines n t r → ReadsLines n u s → r ≡ s
 lines_one n t u r s same ReadsLines.ends ReadsLines.ends = refl
-lines_one n t u r s same ReadsLines.ends (ReadsLines.line f also rest) = absurd (not_empty (parts_of f) _ same)
+lines_one n t u r s same ReadsLines.ends (ReadsLines.line f also rest) = absurd (not_empty (fields_of f) _ same)
 lines_one n t u r s same ReadsLines.ends (ReadsLines.bad some none) = absurd (some (sym same))
-lines_one n t u r s same (ReadsLines.line e is rest) ReadsLines.ends = absurd (not_empty (parts_of e) _ (sym same))
+lines_one n t u r s same (ReadsLines.line e is rest) ReadsLines.ends = absurd (not_empty (fields_of e) _ (sym same))
 lines_one n t u r s same (ReadsLines.line e is rest) (ReadsLines.line f also more) =
     let l = entry_one e f _ _ is also same in
     ap₂ with_front l.0 (lines_one (n + 1) _ _ _ _ l.1 rest more)
@@ -67,7 +67,7 @@ end_step n [] e = ReadsLines.ends
 end_step n (b ∷ text) e = absurd (omega arith)
 
 pub shorter : (text rest : Bytes) (e : NamedEntry) → IsLineAt text e rest → length rest < length text
-shorter text rest e at = omega (arith, ap length at.1, length-append (line_of (parts_of e)) rest, length-append (join_with_byte 32 (parts_of e)) (10 ∷ []))
+shorter text rest e at = omega (arith, ap length at.1, length-append (line_of (fields_of e)) rest, length-append (join_with_byte 32 (fields_of e)) (10 ∷ []))
 
 -- Where no line stands, the text says the error, whatever was read before.
 pub bad_step : (n : ℕ) (text whole : Bytes) (es : List NamedEntry) (e : LineError) → (length text ≡ 0 → ⊥) → IsNoLine text e

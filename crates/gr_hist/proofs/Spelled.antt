@@ -3,63 +3,54 @@ use Rattle.std.proofs.Common.{◌≡◌, ◌∙◌, refl, sym, ap, subst, Bool, 
 use Rattle.std.specs.Prelude.{◌&&◌, ◌||◌}
 use Rattle.std.specs.List.{list_any}
 use Rattle.std.specs.Str.{bytes_eq}
-use Rattle.gr_syntax.specs.Names.{has}
+use Rattle.std.proofs.lemmas.Bool.{and_parts, not-true, or_parts}
+use Rattle.std.proofs.lemmas.Option.{cond_some, same_Some}
+use Rattle.gr_syntax.specs.declared.limits.TheConstants.{MAX_NAME}
+use Rattle.gr_syntax.specs.Names.{has, is_name, is_spelled, keywords}
 use Rattle.gr_hist.specs.declared.text.NamedEntry.{NamedEntry}
-use Rattle.gr_syntax.specs.Names.{is_name, is_spelled, keywords}
 use Rattle.gr_hist.specs.Names.{Bytes, is_object_name}
 use Rattle.gr_hist.specs.Grammar.{IsEntry}
-use Rattle.gr_hist.specs.Reading.{name_of, object_name_of}
-use Rattle.gr_hist.specs.Spelling.{parts_of}
-use Rattle.gr_hist.proofs.Numerals.{both}
-use Rattle.gr_hist.proofs.Options.{if_some, same_some}
+use Rattle.gr_hist.specs.FieldWords.{name_of, object_name_of}
+use Rattle.gr_hist.specs.Spelling.{fields_of}
 use Rattle.gr_hist.proofs.Wording.{same_text}
 
 -- The fields are those of the entry.
 abbrev pub IsSpelled : List Bytes → NamedEntry → Type 0
-IsSpelled ps e = IsEntry e × (ps ≡ parts_of e)
+IsSpelled fields e = IsEntry e × (fields ≡ fields_of e)
 
 -- Names.
 
-pub name_only : (bs : Bytes) → is_name bs ≡ true → name_of bs ≡ Some bs
-name_only bs is = rw is refl
+pub name_only : (bytes : Bytes) → is_name bytes ≡ true → name_of bytes ≡ Some bytes
+name_only bytes is = rw is refl
 
-pub name_found : (bs name : Bytes) → name_of bs ≡ Some name → (bs ≡ name) × (is_name name ≡ true)
-name_found bs name e =
-    let t = if_some (is_name bs) (Some bs) name e in
-    let same = same_some bs name t.1 in
-    (same, sym (ap is_name same) ∙ t.0)
+pub name_found : (bytes name : Bytes) → name_of bytes ≡ Some name → (bytes ≡ name) × (is_name name ≡ true)
+name_found bytes name h =
+    let found = cond_some (is_name bytes) bytes name h in
+    (found.1, sym (ap is_name found.1) ∙ found.0)
 
-pub object_only : (bs : Bytes) → is_object_name bs ≡ true → object_name_of bs ≡ Some bs
-object_only bs is = rw is refl
+pub object_only : (bytes : Bytes) → is_object_name bytes ≡ true → object_name_of bytes ≡ Some bytes
+object_only bytes is = rw is refl
 
-pub object_found : (bs name : Bytes) → object_name_of bs ≡ Some name → (bs ≡ name) × (is_object_name name ≡ true)
-object_found bs name e =
-    let t = if_some (is_object_name bs) (Some bs) name e in
-    let same = same_some bs name t.1 in
-    (same, sym (ap is_object_name same) ∙ t.0)
+pub object_found : (bytes name : Bytes) → object_name_of bytes ≡ Some name → (bytes ≡ name) × (is_object_name name ≡ true)
+object_found bytes name h =
+    let found = cond_some (is_object_name bytes) bytes name h in
+    (found.1, sym (ap is_object_name found.1) ∙ found.0)
 
-neither : (a b : Bool) → a || b ≡ false → (a ≡ false) × (b ≡ false)
-neither true b e = cc
-neither false b e = (refl, e)
-
--- Where none passes the test, the one at place i doesn't.
-any_false : (p : Bytes → Bool) (xs : List Bytes) (i : ℕ) (x : Bytes) → list_any p xs ≡ false → slice_get xs i ≡ Some x → p x ≡ false
-any_false p [] i x none at = cc
-any_false p (y ∷ ys) zero x none at = ap p (sym (same_some y x at)) ∙ (neither (p y) (list_any p ys) none).0
-any_false p (y ∷ ys) (suc i) x none at = any_false p ys i x (neither (p y) (list_any p ys) none).1 at
+-- Where none passes the test, the one at a place doesn't.
+any_false : (test : Bytes → Bool) (words : List Bytes) (place : ℕ) (word : Bytes) → list_any test words ≡ false → slice_get words place ≡ Some word → test word ≡ false
+any_false test [] place word none at = cc
+any_false test (first ∷ words) zero word none at = ap test (sym (same_Some first word at)) ∙ (or_parts (test first) (list_any test words) none).0
+any_false test (first ∷ words) (suc place) word none at = any_false test words place word (or_parts (test first) (list_any test words) none).1 at
 
 -- A name is none of the keywords.
-pub no_keyword : (bs : Bytes) (i : ℕ) (word : Bytes) → is_name bs ≡ true → slice_get keywords i ≡ Some word → bytes_eq bs word ≡ false
-no_keyword bs i word is at = any_false (bytes_eq bs) keywords i word (no_words (has keywords bs) (both (is_spelled bs && nat_le (length bs) 32) (not (has keywords bs)) is).1) at
-  where
-    no_words : (b : Bool) → not b ≡ true → b ≡ false
-    no_words true e = cc
-    no_words false e = refl
+pub no_keyword : (bytes : Bytes) (place : ℕ) (word : Bytes) → is_name bytes ≡ true → slice_get keywords place ≡ Some word → bytes_eq bytes word ≡ false
+no_keyword bytes place word is at =
+    any_false (bytes_eq bytes) keywords place word (not-true (has keywords bytes) (and_parts (is_spelled bytes && nat_le (length bytes) MAX_NAME) (not (has keywords bytes)) is).1) at
 
 -- What names an object is no keyword but `heap`.
-pub no_object : (bs : Bytes) (i : ℕ) (word : Bytes) → is_object_name bs ≡ true → slice_get keywords i ≡ Some word → bytes_eq (codes "heap") word ≡ false → bytes_eq bs word ≡ false
-no_object bs i word is at isnt = by (is_name bs) refl is
+pub no_object : (bytes : Bytes) (place : ℕ) (word : Bytes) → is_object_name bytes ≡ true → slice_get keywords place ≡ Some word → bytes_eq (codes "heap") word ≡ false → bytes_eq bytes word ≡ false
+no_object bytes place word is at other = by (is_name bytes) refl is
   where
-    by : (t : Bool) → is_name bs ≡ t → t || bytes_eq bs (codes "heap") ≡ true → bytes_eq bs word ≡ false
-    by true name is = no_keyword bs i word name at
-    by false name is = subst (λ (x : Bytes). bytes_eq x word ≡ false) (sym (same_text bs (codes "heap") is)) isnt
+    by : (test : Bool) → is_name bytes ≡ test → test || bytes_eq bytes (codes "heap") ≡ true → bytes_eq bytes word ≡ false
+    by true name is = no_keyword bytes place word name at
+    by false name is = subst (λ (x : Bytes). bytes_eq x word ≡ false) (sym (same_text bytes (codes "heap") is)) other

@@ -4,22 +4,22 @@ use Rattle.std.proofs.lemmas.List.{append_assoc, append-nil}
 use Rattle.std.specs.List.{join_with_byte}
 use Rattle.gr_hist.specs.Names.{Bytes}
 use Rattle.gr_hist.specs.Spelling.{line_of}
-use Rattle.gr_hist.specs.Written.{trail}
+use Rattle.gr_hist.specs.WritingWords.{trail}
 
-join_trail : (p : Bytes) (ps : List Bytes) → join_with_byte 32 (p ∷ ps) ≡ p ++ trail ps
+join_trail : (p : Bytes) (fields : List Bytes) → join_with_byte 32 (p ∷ fields) ≡ p ++ trail fields
 join_trail p [] = simp append-nil
-join_trail p (q ∷ ps) = ap (λ (x : Bytes). p ++ 32 ∷ x) (join_trail q ps)
+join_trail p (q ∷ fields) = ap (λ (x : Bytes). p ++ 32 ∷ x) (join_trail q fields)
 
-trail_append : (ps qs : List Bytes) → trail (ps ++ qs) ≡ trail ps ++ trail qs
+trail_append : (fields qs : List Bytes) → trail (fields ++ qs) ≡ trail fields ++ trail qs
 trail_append [] qs = refl
-trail_append (p ∷ ps) qs = ap (λ (x : Bytes). 32 ∷ (p ++ x)) (trail_append ps qs) ∙ ap (λ (x : Bytes). 32 ∷ x) (sym (append_assoc p (trail ps) (trail qs)))
+trail_append (p ∷ fields) qs = ap (λ (x : Bytes). 32 ∷ (p ++ x)) (trail_append fields qs) ∙ ap (λ (x : Bytes). 32 ∷ x) (sym (append_assoc p (trail fields) (trail qs)))
 
-line_trail : (p : Bytes) (ps : List Bytes) → line_of (p ∷ ps) ≡ p ++ (trail ps ++ 10 ∷ [])
-line_trail p ps = ap (λ (x : Bytes). x ++ 10 ∷ []) (join_trail p ps) ∙ append_assoc p (trail ps) (10 ∷ [])
+line_trail : (p : Bytes) (fields : List Bytes) → line_of (p ∷ fields) ≡ p ++ (trail fields ++ 10 ∷ [])
+line_trail p fields = ap (λ (x : Bytes). x ++ 10 ∷ []) (join_trail p fields) ∙ append_assoc p (trail fields) (10 ∷ [])
 
 -- What stands in the text before, and then the fields and a line feed, is the text with the line.
-from_trail : (old id : Bytes) (ps : List Bytes) → old ++ (id ++ (trail ps ++ 10 ∷ [])) ≡ old ++ line_of (id ∷ ps)
-from_trail old id ps = ap (λ (x : Bytes). old ++ x) (sym (line_trail id ps))
+from_trail : (old id : Bytes) (fields : List Bytes) → old ++ (id ++ (trail fields ++ 10 ∷ [])) ≡ old ++ line_of (id ∷ fields)
+from_trail old id fields = ap (λ (x : Bytes). old ++ x) (sym (line_trail id fields))
 
 -- Pieces, added one after another.
 

@@ -1,163 +1,127 @@
 -- Words of operations, reducers and traps, both ways.
-use Rattle.std.proofs.Common.{◌≡◌, ◌∙◌, ◌<◌, ap, refl, sym, subst, true, List, [], ◌∷◌, Option, Some, None, ℕ, zero, suc, arith}
+use Rattle.std.proofs.Common.{◌≡◌, ◌∙◌, ap, refl, sym, true, List, [], ◌∷◌, Option, Some, None, ℕ, zero, suc, nat_lt, arith, slice_index_or}
+use Rattle.std.specs.List.{find, list_all}
 use Rattle.std.specs.Str.{bytes_eq}
+use Rattle.std.proofs.lemmas.Option.{none-some, same_Some}
+use Rattle.std.proofs.lemmas.List.Quantifiers.{position-Some}
 use Rattle.std.proofs.lemmas.Slice.Eq.{bytes_eq-Decides}
-use Rattle.gr_lang.specs.declared.action.TrapKind.{TrapKind}
-use Rattle.gr_lang.specs.declared.action.TrapKind.TheVariants as trap
 use Rattle.gr_accept.specs.declared.operation.Operation.{Operation}
 use Rattle.gr_accept.specs.declared.operation.Operation.TheVariants as o
-use Rattle.gr_accept.specs.Operations.{operation_of, reducer_of}
-use Rattle.gr_hist.specs.Names.{Bytes}
-use Rattle.gr_hist.specs.Reading.{first_with, number_of, trap_of}
-use Rattle.gr_hist.specs.Spelling.{operation_word, reducer_word}
+use Rattle.gr_accept.specs.Operations.{operation_name, operation_of, operations, reducer_name, reducer_names, reducer_of}
+use Rattle.gr_known.specs.Known.{IsReducer}
+use Rattle.gr_lang.specs.declared.action.TrapKind.{TrapKind}
+use Rattle.gr_lang.specs.declared.action.TrapKind.TheVariants as trap
 use Rattle.gr_lang.specs.Traps.{trap_word}
-use Rattle.gr_hist.proofs.Cutting.{Over}
-use Rattle.gr_hist.proofs.Options.{either, same_some, some_none}
+use Rattle.gr_hist.specs.Names.{Bytes}
+use Rattle.gr_hist.specs.FieldWords.{number_of, trap_of, traps}
+use Rattle.gr_hist.proofs.Choices.{either}
+use Rattle.gr_hist.proofs.Cutting.{Over, over_test}
 
-pub same_text : (x y : Bytes) → bytes_eq x y ≡ true → x ≡ y
-same_text x y e = (bytes_eq-Decides x y).0 e
+pub same_text : (one other : Bytes) → bytes_eq one other ≡ true → one ≡ other
+same_text one other = (bytes_eq-Decides one other).0
 
 -- What is found by its word has that word.
 module _ {A : Type 0} (word_of : A → Bytes) where
-  first_found : (xs : List A) (word : Bytes) (x : A) → first_with word_of xs word ≡ Some x → word ≡ word_of x
-  first_found [] word x e = cc
-  first_found (y ∷ ys) word x e = either (bytes_eq word (word_of y)) (Some y) (first_with word_of ys word) x e
-      (λ is same. same_text word (word_of y) is ∙ ap word_of (same_some y x same))
+  first_found : (xs : List A) (word : Bytes) (x : A) → find (λ y. bytes_eq word (word_of y)) xs ≡ Some x → word ≡ word_of x
+  first_found [] word x h = cc
+  first_found (y ∷ ys) word x h = either (bytes_eq word (word_of y)) (Some y) (find (λ z. bytes_eq word (word_of z)) ys) x h
+      (λ is same. same_text word (word_of y) is ∙ ap word_of (same_Some y x same))
       (λ isnt more. first_found ys word x more)
 
-abbrev all_operations : List Operation
-all_operations = o.Read ∷ o.Write ∷ o.Add ∷ o.Cas ∷ o.Reduce ∷ o.Insert ∷ o.Remove ∷ o.Has ∷ o.Put ∷ o.Merge ∷ o.Get ∷ o.Erase ∷ o.Push ∷ o.Pop ∷ o.Dequeue ∷ o.Alloc ∷ o.Free ∷ []
+-- Operations.
 
-pub operation_found : (word : Bytes) (op : Operation) → operation_of word ≡ Some op → word ≡ operation_word op
-operation_found word op e = first_found operation_word all_operations word op e
+-- The name names the operation, is no number, and has no point, space or line feed.
+record IsTold (op : Operation) : Type 0 where
+  named : operation_of (operation_name op) ≡ Some op
+  no_number : number_of (operation_name op) ≡ None
+  over : list_all (nat_lt 45) (operation_name op) ≡ true
 
-pub operation_only : (op : Operation) → operation_of (operation_word op) ≡ Some op
-operation_only o.Read = refl
-operation_only o.Write = refl
-operation_only o.Add = refl
-operation_only o.Cas = refl
-operation_only o.Reduce = refl
-operation_only o.Insert = refl
-operation_only o.Remove = refl
-operation_only o.Has = refl
-operation_only o.Put = refl
-operation_only o.Merge = refl
-operation_only o.Get = refl
-operation_only o.Erase = refl
-operation_only o.Push = refl
-operation_only o.Pop = refl
-operation_only o.Dequeue = refl
-operation_only o.Alloc = refl
-operation_only o.Free = refl
-
--- An operation's word is no number.
-no_number : (op : Operation) → number_of (operation_word op) ≡ None
+operation_told : (op : Operation) → IsTold op
 unfolding number_of
-no_number o.Read = refl
-no_number o.Write = refl
-no_number o.Add = refl
-no_number o.Cas = refl
-no_number o.Reduce = refl
-no_number o.Insert = refl
-no_number o.Remove = refl
-no_number o.Has = refl
-no_number o.Put = refl
-no_number o.Merge = refl
-no_number o.Get = refl
-no_number o.Erase = refl
-no_number o.Push = refl
-no_number o.Pop = refl
-no_number o.Dequeue = refl
-no_number o.Alloc = refl
-no_number o.Free = refl
+operation_told o.Read = record { named = refl; no_number = refl; over = refl }
+operation_told o.Write = record { named = refl; no_number = refl; over = refl }
+operation_told o.Add = record { named = refl; no_number = refl; over = refl }
+operation_told o.Cas = record { named = refl; no_number = refl; over = refl }
+operation_told o.Reduce = record { named = refl; no_number = refl; over = refl }
+operation_told o.Insert = record { named = refl; no_number = refl; over = refl }
+operation_told o.Remove = record { named = refl; no_number = refl; over = refl }
+operation_told o.Has = record { named = refl; no_number = refl; over = refl }
+operation_told o.Put = record { named = refl; no_number = refl; over = refl }
+operation_told o.Merge = record { named = refl; no_number = refl; over = refl }
+operation_told o.Get = record { named = refl; no_number = refl; over = refl }
+operation_told o.Erase = record { named = refl; no_number = refl; over = refl }
+operation_told o.Push = record { named = refl; no_number = refl; over = refl }
+operation_told o.Pop = record { named = refl; no_number = refl; over = refl }
+operation_told o.Dequeue = record { named = refl; no_number = refl; over = refl }
+operation_told o.Alloc = record { named = refl; no_number = refl; over = refl }
+operation_told o.Free = record { named = refl; no_number = refl; over = refl }
 
--- A number is no operation's word.
-pub number_no_operation : (bytes : Bytes) (n : ℕ) → number_of bytes ≡ Some n → operation_of bytes ≡ None
-number_no_operation bytes n is = on (operation_of bytes) refl
+pub operation_found : (word : Bytes) (op : Operation) → operation_of word ≡ Some op → word ≡ operation_name op
+operation_found word op h = first_found operation_name operations word op h
+
+pub operation_only : (op : Operation) → operation_of (operation_name op) ≡ Some op
+operation_only op = (operation_told op).named
+
+pub over_operation : (op : Operation) → Over 45 (operation_name op)
+over_operation op = over_test 45 (operation_name op) (operation_told op).over
+
+-- A number is no operation's name.
+pub number_no_operation : (bytes : Bytes) (number : ℕ) → number_of bytes ≡ Some number → operation_of bytes ≡ None
+number_no_operation bytes number is = on (operation_of bytes) refl
   where
     on : (found : Option Operation) → operation_of bytes ≡ found → operation_of bytes ≡ None
-    on None e = e
-    on (Some op) e = absurd (some_none n (sym is ∙ ap number_of (operation_found bytes op e) ∙ no_number op))
+    on None h = h
+    on (Some op) h = absurd (none-some number (sym (operation_told op).no_number ∙ ap number_of (sym (operation_found bytes op h)) ∙ is))
 
-pub trap_no_operation : (kind : TrapKind) → operation_of (trap_word kind) ≡ None
-trap_no_operation trap.Div = refl
-trap_no_operation trap.Place = refl
-trap_no_operation trap.Core = refl
-trap_no_operation trap.Steps = refl
+-- Reducers.
 
-abbrev all_reducers : List ℕ
-all_reducers = 0 ∷ 1 ∷ 2 ∷ 3 ∷ 4 ∷ 5 ∷ 6 ∷ 7 ∷ []
+record IsReducerTold (reducer : ℕ) : Type 0 where
+  named : reducer_of (reducer_name reducer) ≡ Some reducer
+  over : list_all (nat_lt 45) (reducer_name reducer) ≡ true
 
-abbrev AllSmall : List ℕ → Type 0
-AllSmall [] = Unit {0}
-AllSmall (k ∷ ks) = (k < 8) × AllSmall ks
+reducer_told : (reducer : ℕ) → IsReducer reducer → IsReducerTold reducer
+reducer_told zero less = record { named = refl; over = refl }
+reducer_told (suc zero) less = record { named = refl; over = refl }
+reducer_told (suc (suc zero)) less = record { named = refl; over = refl }
+reducer_told (suc (suc (suc zero))) less = record { named = refl; over = refl }
+reducer_told (suc (suc (suc (suc zero)))) less = record { named = refl; over = refl }
+reducer_told (suc (suc (suc (suc (suc zero))))) less = record { named = refl; over = refl }
+reducer_told (suc (suc (suc (suc (suc (suc zero)))))) less = record { named = refl; over = refl }
+reducer_told (suc (suc (suc (suc (suc (suc (suc zero))))))) less = record { named = refl; over = refl }
+reducer_told (suc (suc (suc (suc (suc (suc (suc (suc reducer)))))))) less = absurd (omega arith)
 
-small : (xs : List ℕ) (word : Bytes) (k : ℕ) → first_with reducer_word xs word ≡ Some k → AllSmall xs → k < 8
-small [] word k e all = cc
-small (y ∷ ys) word k e all = either (bytes_eq word (reducer_word y)) (Some y) (first_with reducer_word ys word) k e
-    (λ is same. subst (λ (n : ℕ). n < 8) (same_some y k same) all.0)
-    (λ isnt more. small ys word k more all.1)
+pub reducer_found : (word : Bytes) (reducer : ℕ) → reducer_of word ≡ Some reducer → (word ≡ reducer_name reducer) × IsReducer reducer
+reducer_found word reducer h =
+    let at = position-Some (bytes_eq word) reducer_names reducer [] h in
+    (same_text word (slice_index_or reducer_names reducer []) at.1, at.0)
 
-pub reducer_found : (word : Bytes) (k : ℕ) → reducer_of word ≡ Some k → (word ≡ reducer_word k) × (k < 8)
-reducer_found word k e = (first_found reducer_word all_reducers word k e, small all_reducers word k e (omega arith, (omega arith, (omega arith, (omega arith, (omega arith, (omega arith, (omega arith, (omega arith, tt)))))))))
+pub reducer_only : (reducer : ℕ) → IsReducer reducer → reducer_of (reducer_name reducer) ≡ Some reducer
+reducer_only reducer less = (reducer_told reducer less).named
 
-pub reducer_only : (k : ℕ) → k < 8 → reducer_of (reducer_word k) ≡ Some k
-reducer_only zero less = refl
-reducer_only (suc zero) less = refl
-reducer_only (suc (suc zero)) less = refl
-reducer_only (suc (suc (suc zero))) less = refl
-reducer_only (suc (suc (suc (suc zero)))) less = refl
-reducer_only (suc (suc (suc (suc (suc zero))))) less = refl
-reducer_only (suc (suc (suc (suc (suc (suc zero)))))) less = refl
-reducer_only (suc (suc (suc (suc (suc (suc (suc zero))))))) less = refl
-reducer_only (suc (suc (suc (suc (suc (suc (suc (suc k)))))))) less = absurd (omega arith)
+pub over_reducer : (reducer : ℕ) → IsReducer reducer → Over 45 (reducer_name reducer)
+over_reducer reducer less = over_test 45 (reducer_name reducer) (reducer_told reducer less).over
 
-abbrev all_traps : List TrapKind
-all_traps = trap.Div ∷ trap.Place ∷ trap.Core ∷ trap.Steps ∷ []
+-- Traps.
+
+record IsTrapTold (kind : TrapKind) : Type 0 where
+  told : trap_of (trap_word kind) ≡ Some kind
+  no_operation : operation_of (trap_word kind) ≡ None
+  over : list_all (nat_lt 45) (trap_word kind) ≡ true
+
+trap_told : (kind : TrapKind) → IsTrapTold kind
+trap_told trap.Div = record { told = refl; no_operation = refl; over = refl }
+trap_told trap.Place = record { told = refl; no_operation = refl; over = refl }
+trap_told trap.Core = record { told = refl; no_operation = refl; over = refl }
+trap_told trap.Steps = record { told = refl; no_operation = refl; over = refl }
 
 pub trap_found : (word : Bytes) (kind : TrapKind) → trap_of word ≡ Some kind → word ≡ trap_word kind
-trap_found word kind e = first_found trap_word all_traps word kind e
+trap_found word kind h = first_found trap_word traps word kind h
 
 pub trap_only : (kind : TrapKind) → trap_of (trap_word kind) ≡ Some kind
-trap_only trap.Div = refl
-trap_only trap.Place = refl
-trap_only trap.Core = refl
-trap_only trap.Steps = refl
+trap_only kind = (trap_told kind).told
 
--- Their bytes are letters.
-
-pub over_operation : (op : Operation) → Over 45 (operation_word op)
-over_operation o.Read = search arith
-over_operation o.Write = search arith
-over_operation o.Add = search arith
-over_operation o.Cas = search arith
-over_operation o.Reduce = search arith
-over_operation o.Insert = search arith
-over_operation o.Remove = search arith
-over_operation o.Has = search arith
-over_operation o.Put = search arith
-over_operation o.Merge = search arith
-over_operation o.Get = search arith
-over_operation o.Erase = search arith
-over_operation o.Push = search arith
-over_operation o.Pop = search arith
-over_operation o.Dequeue = search arith
-over_operation o.Alloc = search arith
-over_operation o.Free = search arith
-
-pub over_reducer : (k : ℕ) → k < 8 → Over 45 (reducer_word k)
-over_reducer zero less = search arith
-over_reducer (suc zero) less = search arith
-over_reducer (suc (suc zero)) less = search arith
-over_reducer (suc (suc (suc zero))) less = search arith
-over_reducer (suc (suc (suc (suc zero)))) less = search arith
-over_reducer (suc (suc (suc (suc (suc zero))))) less = search arith
-over_reducer (suc (suc (suc (suc (suc (suc zero)))))) less = search arith
-over_reducer (suc (suc (suc (suc (suc (suc (suc zero))))))) less = search arith
-over_reducer (suc (suc (suc (suc (suc (suc (suc (suc k)))))))) less = absurd (omega arith)
+pub trap_no_operation : (kind : TrapKind) → operation_of (trap_word kind) ≡ None
+trap_no_operation kind = (trap_told kind).no_operation
 
 pub over_trap : (kind : TrapKind) → Over 45 (trap_word kind)
-over_trap trap.Div = search arith
-over_trap trap.Place = search arith
-over_trap trap.Core = search arith
-over_trap trap.Steps = search arith
+over_trap kind = over_test 45 (trap_word kind) (trap_told kind).over

@@ -2,7 +2,7 @@ pub mod Names
 pub mod Spelling
 pub mod Grammar
 pub mod Naming
-pub mod Reading
-pub mod Lines
-pub mod Written
-pub mod Rows
+-- For proofs and private functions.
+pub mod FieldWords
+pub mod LineWords
+pub mod WritingWords

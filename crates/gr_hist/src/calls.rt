@@ -1,22 +1,22 @@
 //! The lines of calls, from behind the operation's word.
 ghost use Rattle.std.specs.Prelude.{None, Some, map};
-ghost use Rattle.gr_hist.specs.Reading.{Gives, call_of, call_with, reducing_of, reply_of, tail_of};
+ghost use Rattle.gr_hist.specs.FieldWords.{Gives, bytes_of, call_of, call_with, reducing_of};
+ghost use Rattle.gr_hist.specs.FieldWords.{reply_of, tail_of};
 
 use crate::fields::{LineError, counted, is_text};
 use crate::names::object_name;
 use crate::text::NamedEntry;
 use crate::words::reducer_named;
-use gr_lang::TaskId;
-use gr_lang::Words;
 use gr_accept::Operation;
+use gr_lang::{TaskId, Words};
 use gr_syntax::Text;
 use std::alloc::Global;
 
 /// So many result words, behind `=` if there are any.
-fn reply(alloc: Global, count: usize, parts: &[&[u8]]) -> Result<Words, LineError>
-    ensures { Gives (reply_of count (map (λ x. x.now) parts.now)) result }
+fn reply(alloc: Global, count: usize, fields: &[&[u8]]) -> Result<Words, LineError>
+    ensures { Gives (reply_of count (bytes_of fields.now)) result }
 {
-    match parts {
+    match fields {
         [] => {
             if count != 0 {
                 return Err(LineError::Bad);
@@ -38,15 +38,15 @@ fn reply(alloc: Global, count: usize, parts: &[&[u8]]) -> Result<Words, LineErro
 }
 
 /// The numbers of an operation, and its result words.
-fn tail(alloc: Global, op: Operation, parts: &[&[u8]]) -> Result<(Words, Words), LineError>
-    ensures { Gives (tail_of op (map (λ x. x.now) parts.now)) result }
+fn tail(alloc: Global, op: Operation, fields: &[&[u8]]) -> Result<(Words, Words), LineError>
+    ensures { Gives (tail_of op (bytes_of fields.now)) result }
 {
     let count = op.argument_count();
-    if parts.len() < count {
+    if fields.len() < count {
         return Err(LineError::Bad);
     }
-    let numbers = counted(alloc, count, &parts[..count])?;
-    let words = reply(alloc, op.result_count(), &parts[count..])?;
+    let numbers = counted(alloc, count, &fields[..count])?;
+    let words = reply(alloc, op.result_count(), &fields[count..])?;
     Ok((numbers, words))
 }
 
@@ -57,11 +57,11 @@ fn call_with(
     object: Text,
     op: Operation,
     reducer: Option<u64>,
-    parts: &[&[u8]],
+    fields: &[&[u8]],
 ) -> Result<NamedEntry, LineError>
-    ensures { Gives (call_with task object op reducer (map (λ x. x.now) parts.now)) result }
+    ensures { Gives (call_with task object op reducer (bytes_of fields.now)) result }
 {
-    let (numbers, reply) = tail(alloc, op, parts)?;
+    let (numbers, reply) = tail(alloc, op, fields)?;
     Ok(NamedEntry::Call {
         task,
         object,
@@ -78,11 +78,11 @@ fn reducing(
     task: TaskId,
     object: Text,
     op: Operation,
-    parts: &[&[u8]],
+    fields: &[&[u8]],
 ) -> Result<NamedEntry, LineError>
-    ensures { Gives (reducing_of task object op (map (λ x. x.now) parts.now)) result }
+    ensures { Gives (reducing_of task object op (bytes_of fields.now)) result }
 {
-    match parts {
+    match fields {
         [] => Err(LineError::Bad),
         [word, rest @ ..] => {
             let reducer = reducer_named(*word)?;
@@ -93,21 +93,21 @@ fn reducing(
 }
 
 /// A call of the object of that name.
-#[tactic(auto, unfolding(crate::specs::Reading::call_of))]
+#[tactic(auto, unfolding(crate::specs::FieldWords::call_of))]
 pub fn call(
     alloc: Global,
     task: TaskId,
     name: &[u8],
     op: Operation,
-    parts: &[&[u8]],
+    fields: &[&[u8]],
 ) -> Result<NamedEntry, LineError>
-    ensures { Gives (call_of task name.now op (map (λ x. x.now) parts.now)) result }
+    ensures { Gives (call_of task name.now op (bytes_of fields.now)) result }
 {
     let object = object_name(alloc, name)?;
     let entry = if op.takes_reducer() {
-        reducing(alloc, task, object, op, parts)?
+        reducing(alloc, task, object, op, fields)?
     } else {
-        call_with(alloc, task, object, op, None, parts)?
+        call_with(alloc, task, object, op, None, fields)?
     };
     Ok(entry)
 }

@@ -1,14 +1,16 @@
 //! The entry of a line by its fields.
 ghost use Rattle.std.specs.Prelude.{map};
-ghost use Rattle.gr_hist.specs.Reading.{Gives, act_of, begin_of, by_operation, end_of, entry_of, finish_of, mark_of, other_of, over_of, print_of, trap_entry};
+ghost use Rattle.gr_hist.specs.FieldWords.{Gives, bytes_of, act_of, begin_of, by_operation};
+ghost use Rattle.gr_hist.specs.FieldWords.{end_of, entry_of, finish_of, mark_of, other_of};
+ghost use Rattle.gr_hist.specs.FieldWords.{over_of, print_of, trap_entry};
 
 use crate::calls::call;
 use crate::fields::{LineError, child, id, is_text, number};
 use crate::starts::{forall, offer, spawn};
 use crate::text::NamedEntry;
-use crate::words::{operation_named, trap_named};
+use crate::words::trap_named;
+use gr_accept::{Operation, operation_of};
 use gr_lang::TaskId;
-use gr_accept::Operation;
 use std::alloc::Global;
 
 /// The whole line `over`.
@@ -23,10 +25,10 @@ fn over(word: &[u8]) -> Result<NamedEntry, LineError>
 }
 
 /// What stands behind `print`.
-fn print(task: TaskId, parts: &[&[u8]]) -> Result<NamedEntry, LineError>
-    ensures { Gives (print_of task (map (λ x. x.now) parts.now)) result }
+fn print(task: TaskId, fields: &[&[u8]]) -> Result<NamedEntry, LineError>
+    ensures { Gives (print_of task (bytes_of fields.now)) result }
 {
-    match parts {
+    match fields {
         [word] => {
             let word = number(*word)?;
             Ok(NamedEntry::Print { task, word })
@@ -36,10 +38,10 @@ fn print(task: TaskId, parts: &[&[u8]]) -> Result<NamedEntry, LineError>
 }
 
 /// What stands behind `finish`.
-fn finish(task: TaskId, parts: &[&[u8]]) -> Result<NamedEntry, LineError>
-    ensures { Gives (finish_of task (map (λ x. x.now) parts.now)) result }
+fn finish(task: TaskId, fields: &[&[u8]]) -> Result<NamedEntry, LineError>
+    ensures { Gives (finish_of task (bytes_of fields.now)) result }
 {
-    match parts {
+    match fields {
         [] => Ok(NamedEntry::Finish { task }),
         [_, ..] => Err(LineError::Bad),
     }
@@ -59,10 +61,10 @@ fn end(task: TaskId, word: &[u8]) -> Result<NamedEntry, LineError>
 }
 
 /// What stands behind `trap`.
-fn trap(task: TaskId, word: &[u8], parts: &[&[u8]]) -> Result<NamedEntry, LineError>
-    ensures { Gives (trap_entry task word.now (map (λ x. x.now) parts.now)) result }
+fn trap(task: TaskId, word: &[u8], fields: &[&[u8]]) -> Result<NamedEntry, LineError>
+    ensures { Gives (trap_entry task word.now (bytes_of fields.now)) result }
 {
-    match parts {
+    match fields {
         [] => {
             let kind = trap_named(word)?;
             Ok(NamedEntry::Trap { task, kind })
@@ -72,11 +74,11 @@ fn trap(task: TaskId, word: &[u8], parts: &[&[u8]]) -> Result<NamedEntry, LineEr
 }
 
 /// What stands behind `begin`.
-fn begin(owner: TaskId, index: &[u8], parts: &[&[u8]]) -> Result<NamedEntry, LineError>
-    ensures { Gives (begin_of owner index.now (map (λ x. x.now) parts.now)) result }
+fn begin(owner: TaskId, index: &[u8], fields: &[&[u8]]) -> Result<NamedEntry, LineError>
+    ensures { Gives (begin_of owner index.now (bytes_of fields.now)) result }
 {
     let index = number(index)?;
-    let child = child(parts)?;
+    let child = child(fields)?;
     Ok(NamedEntry::Begin {
         owner,
         index,
@@ -85,14 +87,14 @@ fn begin(owner: TaskId, index: &[u8], parts: &[&[u8]]) -> Result<NamedEntry, Lin
 }
 
 /// An entry of some words that is no call.
-#[tactic(auto, unfolding(crate::specs::Reading::mark_of))]
-fn mark(task: TaskId, word: &[u8], first: &[u8], parts: &[&[u8]]) -> Result<NamedEntry, LineError>
-    ensures { Gives (mark_of task word.now first.now (map (λ x. x.now) parts.now)) result }
+#[tactic(auto, unfolding(crate::specs::FieldWords::mark_of))]
+fn mark(task: TaskId, word: &[u8], first: &[u8], fields: &[&[u8]]) -> Result<NamedEntry, LineError>
+    ensures { Gives (mark_of task word.now first.now (bytes_of fields.now)) result }
 {
     let entry = if is_text(word, "trap") {
-        trap(task, first, parts)?
+        trap(task, first, fields)?
     } else if is_text(word, "begin") {
-        begin(task, first, parts)?
+        begin(task, first, fields)?
     } else {
         return Err(LineError::Bad);
     };
@@ -106,25 +108,30 @@ fn by_operation(
     task: TaskId,
     word: &[u8],
     first: &[u8],
-    parts: &[&[u8]],
+    fields: &[&[u8]],
 ) -> Result<NamedEntry, LineError>
-    ensures { Gives (by_operation found task word.now first.now (map (λ x. x.now) parts.now)) result }
+    ensures { Gives (by_operation found task word.now first.now (bytes_of fields.now)) result }
 {
     match found {
-        Some(op) => call(alloc, task, word, op, parts),
-        None => mark(task, word, first, parts),
+        Some(op) => call(alloc, task, word, op, fields),
+        None => mark(task, word, first, fields),
     }
 }
 
 /// An entry whose first word is no keyword.
-#[tactic(auto, unfolding(crate::specs::Reading::other_of))]
-fn other(alloc: Global, task: TaskId, word: &[u8], parts: &[&[u8]]) -> Result<NamedEntry, LineError>
-    ensures { Gives (other_of task word.now (map (λ x. x.now) parts.now)) result }
+#[tactic(auto, unfolding(crate::specs::FieldWords::other_of))]
+fn other(
+    alloc: Global,
+    task: TaskId,
+    word: &[u8],
+    fields: &[&[u8]],
+) -> Result<NamedEntry, LineError>
+    ensures { Gives (other_of task word.now (bytes_of fields.now)) result }
 {
-    match parts {
+    match fields {
         [] => end(task, word),
         [first, rest @ ..] => {
-            let found = operation_named(*first);
+            let found = operation_of(*first);
             let entry = by_operation(alloc, found, task, word, *first, rest)?;
             Ok(entry)
         }
@@ -132,32 +139,32 @@ fn other(alloc: Global, task: TaskId, word: &[u8], parts: &[&[u8]]) -> Result<Na
 }
 
 /// An entry by its first word.
-fn act(alloc: Global, task: TaskId, word: &[u8], parts: &[&[u8]]) -> Result<NamedEntry, LineError>
-    ensures { Gives (act_of task word.now (map (λ x. x.now) parts.now)) result }
+fn act(alloc: Global, task: TaskId, word: &[u8], fields: &[&[u8]]) -> Result<NamedEntry, LineError>
+    ensures { Gives (act_of task word.now (bytes_of fields.now)) result }
 {
     if is_text(word, "print") {
-        return print(task, parts);
+        return print(task, fields);
     }
     if is_text(word, "finish") {
-        return finish(task, parts);
+        return finish(task, fields);
     }
     if is_text(word, "spawn") {
-        return spawn(alloc, task, parts);
+        return spawn(alloc, task, fields);
     }
     if is_text(word, "offer") {
-        return offer(alloc, task, parts);
+        return offer(alloc, task, fields);
     }
     if is_text(word, "forall") {
-        return forall(alloc, task, parts);
+        return forall(alloc, task, fields);
     }
-    other(alloc, task, word, parts)
+    other(alloc, task, word, fields)
 }
 
 /// The entry of these fields.
-pub fn entry(alloc: Global, parts: &[&[u8]]) -> Result<NamedEntry, LineError>
-    ensures { Gives (entry_of (map (λ x. x.now) parts.now)) result }
+pub fn entry(alloc: Global, fields: &[&[u8]]) -> Result<NamedEntry, LineError>
+    ensures { Gives (entry_of (bytes_of fields.now)) result }
 {
-    match parts {
+    match fields {
         [] => Err(LineError::Bad),
         [word] => over(*word),
         [first, word, rest @ ..] => {

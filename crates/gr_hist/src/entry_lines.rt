@@ -2,20 +2,20 @@
 ghost use Rattle.std.specs.Prelude.{◌≡◌, ◌++◌, ◌∷◌, [], OnOk};
 ghost use Rattle.gr_hist.specs.declared.text.NamedEntry.TheVariants as entry;
 ghost use Rattle.gr_hist.specs.Grammar.{HasNumbers, IsId};
-ghost use Rattle.gr_hist.specs.Spelling.{id_bytes, line_of, parts_of};
+ghost use Rattle.gr_hist.specs.Spelling.{entry_line, id_bytes, line_of};
 
 use crate::putting::{
     put_child, put_how, put_id, put_number, put_numbers, put_range, put_reducer, put_reply,
     put_text, put_word,
 };
-use crate::words::operation_word;
-use gr_lang::{How, TaskId, TrapKind};
 use gr_accept::Operation;
+use gr_lang::{How, TaskId, TrapKind};
 use std::alloc::AllocError;
 
 /// Adds the line of a task and a word.
 pub fn put_mark(out: &mut Vec<u8>, task: TaskId, word: &str) -> Result<(), AllocError>
-    ensures text { OnOk result (out.new.items ≡ out.old.items ++ line_of (id_bytes task ∷ word.now ∷ [])) }
+    ensures text { OnOk result (out.new.items ≡ out.old.items
+        ++ line_of (id_bytes task ∷ word.now ∷ [])) }
     ensures fits { IsId task }
 {
     put_id(out, task)?;
@@ -25,7 +25,8 @@ pub fn put_mark(out: &mut Vec<u8>, task: TaskId, word: &str) -> Result<(), Alloc
 
 /// Adds the line of a print.
 pub fn put_print(out: &mut Vec<u8>, task: TaskId, word: u64) -> Result<(), AllocError>
-    ensures text { OnOk result (out.new.items ≡ out.old.items ++ line_of (parts_of (entry.Print task word))) }
+    ensures text { OnOk result (out.new.items ≡ out.old.items
+        ++ entry_line (entry.Print task word)) }
     ensures fits { HasNumbers (entry.Print task word) }
 {
     put_id(out, task)?;
@@ -44,12 +45,14 @@ pub fn put_call(
     numbers: &[u64],
     reply: &[u64],
 ) -> Result<(), AllocError>
-    ensures text { OnOk result (out.new.items ≡ out.old.items ++ line_of (parts_of (entry.Call task object.now op reducer numbers.now reply.now))) }
-    ensures fits { OnOk result (HasNumbers (entry.Call task object.now op reducer numbers.now reply.now)) }
+    ensures text { OnOk result (out.new.items ≡ out.old.items
+        ++ entry_line (entry.Call task object.now op reducer numbers.now reply.now)) }
+    ensures fits { OnOk result
+        (HasNumbers (entry.Call task object.now op reducer numbers.now reply.now)) }
 {
     put_id(out, task)?;
     put_word(out, object)?;
-    put_word(out, operation_word(op))?;
+    put_word(out, op.name())?;
     put_reducer(out, reducer)?;
     put_numbers(out, numbers)?;
     put_reply(out, reply)?;
@@ -65,7 +68,8 @@ pub fn put_start(
     args: &[u64],
     child: TaskId,
 ) -> Result<(), AllocError>
-    ensures text { OnOk result (out.new.items ≡ out.old.items ++ line_of (parts_of (entry.Spawn task how target.now args.now child))) }
+    ensures text { OnOk result (out.new.items ≡ out.old.items
+        ++ entry_line (entry.Spawn task how target.now args.now child)) }
     ensures fits { OnOk result (HasNumbers (entry.Spawn task how target.now args.now child)) }
 {
     put_id(out, task)?;
@@ -86,7 +90,8 @@ pub fn put_loop(
     target: &str,
     args: &[u64],
 ) -> Result<(), AllocError>
-    ensures text { OnOk result (out.new.items ≡ out.old.items ++ line_of (parts_of (entry.Loop task lo hi grain target.now args.now))) }
+    ensures text { OnOk result (out.new.items ≡ out.old.items
+        ++ entry_line (entry.Loop task lo hi grain target.now args.now)) }
     ensures fits { OnOk result (HasNumbers (entry.Loop task lo hi grain target.now args.now)) }
 {
     put_id(out, task)?;
@@ -103,7 +108,8 @@ pub fn put_begin(
     index: u64,
     child: TaskId,
 ) -> Result<(), AllocError>
-    ensures text { OnOk result (out.new.items ≡ out.old.items ++ line_of (parts_of (entry.Begin owner index child))) }
+    ensures text { OnOk result (out.new.items ≡ out.old.items
+        ++ entry_line (entry.Begin owner index child)) }
     ensures fits { HasNumbers (entry.Begin owner index child) }
 {
     put_id(out, owner)?;
@@ -115,7 +121,8 @@ pub fn put_begin(
 
 /// Adds the line of a trap.
 pub fn put_trap(out: &mut Vec<u8>, task: TaskId, kind: TrapKind) -> Result<(), AllocError>
-    ensures text { OnOk result (out.new.items ≡ out.old.items ++ line_of (parts_of (entry.Trap task kind))) }
+    ensures text { OnOk result (out.new.items ≡ out.old.items
+        ++ entry_line (entry.Trap task kind)) }
     ensures fits { IsId task }
 {
     put_id(out, task)?;

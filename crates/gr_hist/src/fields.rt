@@ -1,15 +1,16 @@
 //! The fields of a line: numbers and tasks.
-ghost use Rattle.std.specs.Prelude.{◌≡◌, ◌==◌, map, not, option_map, IfOk, MatchResult, Some};
-ghost use Rattle.std.specs.List.{prefix_len};
+ghost use Rattle.std.specs.Prelude.{◌≡◌, ◌==◌, map, option_map, IfOk};
+ghost use Rattle.std.specs.List.{position_or_len};
 ghost use Rattle.std.specs.Str.{bytes_eq};
-ghost use Rattle.gr_hist.specs.Reading.{Gives, child_of, counted_of, cut_at, digit_after, digits_after, id_of, leads, number_of, numbers_of, parts_in};
+ghost use Rattle.gr_hist.specs.FieldWords.{Gives, bytes_of, child_of, counted_of, cut_at};
+ghost use Rattle.gr_hist.specs.FieldWords.{digit_after, digits_after, fields_in, id_of, leads};
+ghost use Rattle.gr_hist.specs.FieldWords.{number_of, numbers_of};
 
-use gr_lang::TaskId;
-use gr_lang::Words;
+use gr_lang::{TaskId, Words};
 use std::alloc::{AllocError, Global};
 
 /// Why fields aren't read.
-#[derive(Clone, Copy, Debug, PartialEq, Eq)]
+#[derive(Clone, Copy)]
 pub enum LineError {
     /// The grammar doesn't take them.
     Bad,
@@ -26,6 +27,16 @@ impl From<AllocError> for LineError {
     fn from(error: AllocError) -> LineError {
         let _ = error;
         LineError::OutOfMemory
+    }
+}
+
+/// The value, or `Bad` where there is none.
+pub fn given<T>(found: Option<T>) -> Result<T, LineError>
+    ensures { Gives found result }
+{
+    match found {
+        Some(value) => Ok(value),
+        None => Err(LineError::Bad),
     }
 }
 
@@ -68,7 +79,7 @@ fn leads(bytes: &[u8]) -> bool
     }
 }
 
-#[tactic(auto, unfolding(crate::specs::Reading::number_of))]
+#[tactic(auto, unfolding(crate::specs::FieldWords::number_of))]
 fn value_of(bytes: &[u8]) -> Option<u64>
     ensures { result ≡ number_of bytes.now }
 {
@@ -79,22 +90,18 @@ fn value_of(bytes: &[u8]) -> Option<u64>
 pub fn number(bytes: &[u8]) -> Result<u64, LineError>
     ensures { Gives (number_of bytes.now) result }
 {
-    let value = value_of(bytes);
-    match value {
-        Some(n) => Ok(n),
-        None => Err(LineError::Bad),
-    }
+    given(value_of(bytes))
 }
 
 fn len_before(bytes: &[u8], stop: u8) -> usize
-    ensures { result ≡ prefix_len (λ b. not (b == stop)) bytes.now }
+    ensures { result ≡ position_or_len (λ byte. byte == stop) bytes.now }
 {
-    bytes.iter().take_while(|b| **b != stop).count()
+    bytes.iter().take_while(|byte| **byte != stop).count()
 }
 
 /// What stands before the first such byte, and what stands behind it.
 pub fn cut(bytes: &[u8], stop: u8) -> Option<(&[u8], &[u8])>
-    ensures { option_map (λ p. (p.0.now, p.1.now)) result ≡ cut_at stop bytes.now }
+    ensures { option_map (λ halves. (halves.0.now, halves.1.now)) result ≡ cut_at stop bytes.now }
 {
     let len = len_before(bytes, stop);
     if len < bytes.len() {
@@ -120,10 +127,10 @@ pub fn id(bytes: &[u8]) -> Result<TaskId, LineError>
 }
 
 /// The task behind `as`.
-pub fn child(parts: &[&[u8]]) -> Result<TaskId, LineError>
-    ensures { Gives (child_of (map (λ x. x.now) parts.now)) result }
+pub fn child(fields: &[&[u8]]) -> Result<TaskId, LineError>
+    ensures { Gives (child_of (bytes_of fields.now)) result }
 {
-    match parts {
+    match fields {
         [sign, child] => {
             let is_child = is_text(*sign, "as");
             if !is_child {
@@ -137,31 +144,31 @@ pub fn child(parts: &[&[u8]]) -> Result<TaskId, LineError>
 }
 
 /// The fields of a line, between its spaces.
-pub fn parts(alloc: Global, line: &[u8]) -> Result<Vec<&[u8]>, AllocError>
-    ensures { IfOk result (λ v. map (λ x. x.now) v.items ≡ parts_in line.now) }
+pub fn fields(alloc: Global, line: &[u8]) -> Result<Vec<&[u8]>, AllocError>
+    ensures { IfOk result (λ fields. bytes_of fields.items ≡ fields_in line.now) }
 {
-    line.split(|b| *b == b' ').collect(alloc)
+    line.split(|byte| *byte == b' ').collect(alloc)
 }
 
 /// The numbers that the fields write.
-pub fn numbers(alloc: Global, parts: &[&[u8]]) -> Result<Words, LineError>
-    ensures { Gives (numbers_of (map (λ x. x.now) parts.now)) result }
+pub fn numbers(alloc: Global, fields: &[&[u8]]) -> Result<Words, LineError>
+    ensures { Gives (numbers_of (bytes_of fields.now)) result }
 {
     let mut words = Words::new(alloc);
-    for part in parts {
-        let word = number(*part)?;
+    for field in fields {
+        let word = number(*field)?;
         words.push(word)?;
     }
     Ok(words)
 }
 
 /// The numbers that so many fields write.
-pub fn counted(alloc: Global, count: usize, parts: &[&[u8]]) -> Result<Words, LineError>
-    ensures { Gives (counted_of count (map (λ x. x.now) parts.now)) result }
+pub fn counted(alloc: Global, count: usize, fields: &[&[u8]]) -> Result<Words, LineError>
+    ensures { Gives (counted_of count (bytes_of fields.now)) result }
 {
-    if parts.len() != count {
+    if fields.len() != count {
         return Err(LineError::Bad);
     }
-    let words = numbers(alloc, parts)?;
+    let words = numbers(alloc, fields)?;
     Ok(words)
 }

@@ -1,13 +1,9 @@
 //! The first line of a history text.
-ghost use Rattle.std.specs.Prelude.{map};
-ghost use Rattle.gr_hist.specs.Lines.{header_of, limits_of, sizes_of};
-ghost use Rattle.gr_hist.specs.Reading.{Gives};
+ghost use Rattle.gr_hist.specs.LineWords.{header_of, limits_of, sizes_of};
+ghost use Rattle.gr_hist.specs.FieldWords.{Gives, bytes_of};
 
 use crate::fields::{LineError, is_text, number};
-use gr_syntax::MAX_CORES;
-
-/// The greatest limit of steps: 2^40.
-const MAX_STEPS: u64 = 1 << 40;
+use gr_syntax::{MAX_CORES, MAX_STEPS};
 
 /// The numbers of cores and of steps, within their limits.
 fn limits(cores: u64, steps: u64) -> Result<(u64, u64), LineError>
@@ -21,10 +17,10 @@ fn limits(cores: u64, steps: u64) -> Result<(u64, u64), LineError>
 }
 
 /// What stands behind `history 1 cores`.
-fn sizes(parts: &[&[u8]]) -> Result<(u64, u64), LineError>
-    ensures { Gives (sizes_of (map (λ x. x.now) parts.now)) result }
+fn sizes(fields: &[&[u8]]) -> Result<(u64, u64), LineError>
+    ensures { Gives (sizes_of (bytes_of fields.now)) result }
 {
-    match parts {
+    match fields {
         [cores, sign, steps] => {
             let has_steps = is_text(*sign, "steps");
             if !has_steps {
@@ -40,10 +36,10 @@ fn sizes(parts: &[&[u8]]) -> Result<(u64, u64), LineError>
 }
 
 /// The numbers of cores and of steps of a first line with these fields.
-pub fn header(parts: &[&[u8]]) -> Result<(u64, u64), LineError>
-    ensures { Gives (header_of (map (λ x. x.now) parts.now)) result }
+pub fn header(fields: &[&[u8]]) -> Result<(u64, u64), LineError>
+    ensures { Gives (header_of (bytes_of fields.now)) result }
 {
-    match parts {
+    match fields {
         [first, version, sign, rest @ ..] => {
             let is_first = is_text(*first, "history")
                 && is_text(*version, "1")

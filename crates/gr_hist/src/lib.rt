@@ -6,18 +6,16 @@ mod entries;
 mod entry_lines;
 mod fields;
 mod header;
-pub mod laws;
+mod laws;
 mod names;
 mod putting;
 mod reading;
-mod shapes;
 mod starts;
-mod tables;
-#[cfg(test)]
-mod tests;
-pub mod text;
+mod text;
 mod words;
 mod writing;
 
+pub use laws::readings_are_unique;
 pub use reading::read;
+pub use text::{HistError, HistoryText, NamedEntries, NamedEntry};
 pub use writing::write;

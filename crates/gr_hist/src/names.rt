@@ -1,34 +1,37 @@
 //! The names of the language, read from the fields of a line.
-ghost use Rattle.std.specs.Prelude.{◌≡◌, IfOk, MatchResult, Some};
-ghost use Rattle.std.specs.List.{list_all};
-ghost use Rattle.std.specs.Str.{IsUtf8};
+ghost use Rattle.std.specs.Prelude.{◌≡◌, IfOk};
+ghost use Rattle.std.specs.List.{list_all, list_any};
+ghost use Rattle.std.specs.Str.{IsUtf8, bytes_eq};
 ghost use Rattle.gr_syntax.specs.Names.{has, is_letter, is_name, is_spelled, is_word, keywords};
 ghost use Rattle.gr_hist.specs.Names.{is_object_name};
-ghost use Rattle.gr_hist.specs.Reading.{Gives, name_of, object_name_of};
+ghost use Rattle.gr_hist.specs.FieldWords.{Gives, name_of, object_name_of};
 
 use crate::fields::{LineError, is_text};
-use gr_syntax::Text;
+use gr_syntax::{MAX_NAME, Text};
 use std::alloc::{AllocError, Global};
 
-/// The most bytes of a name.
-const MOST_NAME: usize = 32;
+/// The words of the language, which name nothing.
+const KEYWORDS: [&str; 19] = [
+    "array", "set", "map", "vector", "heap", "input", "show", "task", "let", "if", "else", "while",
+    "print", "spawn", "at", "offer", "finish", "forall", "grain",
+];
 
-fn is_letter(b: u8) -> bool
-    ensures { result ≡ is_letter b }
+fn is_letter(byte: u8) -> bool
+    ensures { result ≡ is_letter byte }
 {
-    matches!(b, b'a'..=b'z' | b'A'..=b'Z' | b'_')
+    matches!(byte, b'a'..=b'z' | b'A'..=b'Z' | b'_')
 }
 
-fn is_word(b: u8) -> bool
-    ensures { result ≡ is_word b }
+fn is_word(byte: u8) -> bool
+    ensures { result ≡ is_word byte }
 {
-    is_letter(b) || matches!(b, b'0'..=b'9')
+    is_letter(byte) || matches!(byte, b'0'..=b'9')
 }
 
 fn are_words(bytes: &[u8]) -> bool
     ensures { result ≡ list_all is_word bytes.now }
 {
-    bytes.iter().all(|b| is_word(*b))
+    bytes.iter().all(|byte| is_word(*byte))
 }
 
 fn is_spelled(bytes: &[u8]) -> bool
@@ -40,34 +43,22 @@ fn is_spelled(bytes: &[u8]) -> bool
     }
 }
 
+fn is_among(words: &[&str], bytes: &[u8]) -> bool
+    ensures { result ≡ list_any (λ word. bytes_eq bytes.now word.now) words.now }
+{
+    words.iter().any(|word| bytes == word.as_bytes())
+}
+
 fn is_keyword(bytes: &[u8]) -> bool
     ensures { result ≡ has keywords bytes.now }
 {
-    is_text(bytes, "array")
-        || is_text(bytes, "set")
-        || is_text(bytes, "map")
-        || is_text(bytes, "vector")
-        || is_text(bytes, "heap")
-        || is_text(bytes, "input")
-        || is_text(bytes, "show")
-        || is_text(bytes, "task")
-        || is_text(bytes, "let")
-        || is_text(bytes, "if")
-        || is_text(bytes, "else")
-        || is_text(bytes, "while")
-        || is_text(bytes, "print")
-        || is_text(bytes, "spawn")
-        || is_text(bytes, "at")
-        || is_text(bytes, "offer")
-        || is_text(bytes, "finish")
-        || is_text(bytes, "forall")
-        || is_text(bytes, "grain")
+    is_among(&KEYWORDS, bytes)
 }
 
 fn is_name(bytes: &[u8]) -> bool
     ensures { result ≡ is_name bytes.now }
 {
-    is_spelled(bytes) && bytes.len() <= MOST_NAME && !is_keyword(bytes)
+    is_spelled(bytes) && bytes.len() <= MAX_NAME && !is_keyword(bytes)
 }
 
 fn is_object_name(bytes: &[u8]) -> bool

@@ -1,10 +1,11 @@
 //! The fields of a line, written.
 ghost use Rattle.std.specs.Prelude.{◌≡◌, ◌++◌, ◌∷◌, All, OnOk, decimal, map};
 ghost use Rattle.gr_hist.specs.Grammar.{IsHow, IsId, IsWord};
-ghost use Rattle.gr_hist.specs.Spelling.{child_part, how_part, id_bytes, range_part, reducer_part, reply_part};
-ghost use Rattle.gr_hist.specs.Written.{trail};
+ghost use Rattle.gr_hist.specs.Spelling.{child_fields, how_fields, id_bytes, range_fields};
+ghost use Rattle.gr_hist.specs.Spelling.{reducer_field, reply_fields};
+ghost use Rattle.gr_hist.specs.WritingWords.{trail};
 
-use crate::words::reducer_word;
+use gr_accept::reducer_name;
 use gr_lang::{How, TaskId};
 use itoa::Buffer;
 use std::alloc::AllocError;
@@ -65,17 +66,17 @@ pub fn put_numbers(out: &mut Vec<u8>, numbers: &[u64]) -> Result<(), AllocError>
 
 /// Adds the word of a reducer, if there is one.
 pub fn put_reducer(out: &mut Vec<u8>, reducer: Option<u64>) -> Result<(), AllocError>
-    ensures { OnOk result (out.new.items ≡ out.old.items ++ trail (reducer_part reducer)) }
+    ensures { OnOk result (out.new.items ≡ out.old.items ++ trail (reducer_field reducer)) }
 {
     match reducer {
-        Some(number) => put_word(out, reducer_word(number)),
+        Some(number) => put_word(out, reducer_name(number)),
         None => Ok(()),
     }
 }
 
 /// Adds the result words of a call, behind `=` if there are any.
 pub fn put_reply(out: &mut Vec<u8>, words: &[u64]) -> Result<(), AllocError>
-    ensures text { OnOk result (out.new.items ≡ out.old.items ++ trail (reply_part words.now)) }
+    ensures text { OnOk result (out.new.items ≡ out.old.items ++ trail (reply_fields words.now)) }
     ensures fits { OnOk result (All IsWord words.now) }
 {
     if !words.is_empty() {
@@ -86,7 +87,7 @@ pub fn put_reply(out: &mut Vec<u8>, words: &[u64]) -> Result<(), AllocError>
 
 /// Adds how a task is started.
 pub fn put_how(out: &mut Vec<u8>, how: How) -> Result<(), AllocError>
-    ensures text { OnOk result (out.new.items ≡ out.old.items ++ trail (how_part how)) }
+    ensures text { OnOk result (out.new.items ≡ out.old.items ++ trail (how_fields how)) }
     ensures fits { IsHow how }
 {
     match how {
@@ -101,7 +102,7 @@ pub fn put_how(out: &mut Vec<u8>, how: How) -> Result<(), AllocError>
 
 /// Adds the range of a loop and its grain.
 pub fn put_range(out: &mut Vec<u8>, lo: u64, hi: u64, grain: u64) -> Result<(), AllocError>
-    ensures text { OnOk result (out.new.items ≡ out.old.items ++ trail (range_part lo hi grain)) }
+    ensures text { OnOk result (out.new.items ≡ out.old.items ++ trail (range_fields lo hi grain)) }
     ensures fits { IsWord lo × IsWord hi × IsWord grain }
 {
     put_text(out, " forall ")?;
@@ -114,7 +115,7 @@ pub fn put_range(out: &mut Vec<u8>, lo: u64, hi: u64, grain: u64) -> Result<(), 
 
 /// Adds the new task, behind `as`.
 pub fn put_child(out: &mut Vec<u8>, child: TaskId) -> Result<(), AllocError>
-    ensures text { OnOk result (out.new.items ≡ out.old.items ++ trail (child_part child)) }
+    ensures text { OnOk result (out.new.items ≡ out.old.items ++ trail (child_fields child)) }
     ensures fits { IsId child }
 {
     put_text(out, " as ")?;

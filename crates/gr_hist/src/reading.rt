@@ -1,11 +1,12 @@
 //! The reader of history texts.
 ghost use Rattle.std.specs.Prelude.{◌≡◌, MatchResult, Ok};
 ghost use Rattle.gr_hist.specs.Grammar.{IsSameError, Outcome, ReadsLines, ReadsText, SaysError};
-ghost use Rattle.gr_hist.specs.Lines.{IsHeaderAt, IsLineAt, IsNoHeader, IsNoLine, SaysLine, entry_in, error_at, header_in};
-ghost use Rattle.gr_hist.specs.Reading.{Gives};
+ghost use Rattle.gr_hist.specs.LineWords.{IsHeaderAt, IsLineAt, IsNoHeader, IsNoLine};
+ghost use Rattle.gr_hist.specs.LineWords.{SaysLine, entry_in, error_at, header_in};
+ghost use Rattle.gr_hist.specs.FieldWords.{Gives};
 
 use crate::entries::entry;
-use crate::fields::{LineError, cut, parts};
+use crate::fields::{LineError, cut, fields};
 use crate::header::header;
 use crate::text::{HistError, HistoryText, NamedEntries, NamedEntry};
 use std::alloc::Global;
@@ -23,28 +24,29 @@ impl LineError {
 }
 
 /// The entry of a line.
-#[tactic(auto, unfolding(crate::specs::Lines::entry_in))]
+#[tactic(auto, unfolding(crate::specs::LineWords::entry_in))]
 fn entry_in(alloc: Global, line: &[u8]) -> Result<NamedEntry, LineError>
     ensures { Gives (entry_in line.now) result }
 {
-    let parts = parts(alloc, line)?;
-    let found = entry(alloc, parts.as_slice())?;
+    let fields = fields(alloc, line)?;
+    let found = entry(alloc, fields.as_slice())?;
     Ok(found)
 }
 
 /// The header of a line.
-#[tactic(auto, unfolding(crate::specs::Lines::header_in))]
+#[tactic(auto, unfolding(crate::specs::LineWords::header_in))]
 fn header_in(alloc: Global, line: &[u8]) -> Result<(u64, u64), LineError>
     ensures { Gives (header_in line.now) result }
 {
-    let parts = parts(alloc, line)?;
-    let found = header(parts.as_slice())?;
+    let fields = fields(alloc, line)?;
+    let found = header(fields.as_slice())?;
     Ok(found)
 }
 
 /// The entry of the first line of the text, and the text behind that line.
 fn line_at(alloc: Global, text: &[u8]) -> Result<(NamedEntry, &[u8]), LineError>
-    ensures { MatchResult result (λ p. IsLineAt text.now p.0 p.1.now) (IsNoLine text.now) }
+    ensures { MatchResult result
+        (λ found. IsLineAt text.now found.0 found.1.now) (IsNoLine text.now) }
 {
     let found = cut(text, b'\n');
     match found {
@@ -58,7 +60,8 @@ fn line_at(alloc: Global, text: &[u8]) -> Result<(NamedEntry, &[u8]), LineError>
 
 /// The numbers of cores and of steps of the first line of the text, and the text behind that line.
 fn header_at(alloc: Global, text: &[u8]) -> Result<((u64, u64), &[u8]), LineError>
-    ensures { MatchResult result (λ p. IsHeaderAt text.now p.0.0 p.0.1 p.1.now) (IsNoHeader text.now) }
+    ensures { MatchResult result
+        (λ found. IsHeaderAt text.now found.0.0 found.0.1 found.1.now) (IsNoHeader text.now) }
 {
     let first = cut(text, b'\n');
     match first {
@@ -91,11 +94,13 @@ fn entries(alloc: Global, text: &[u8]) -> Result<NamedEntries, HistError>
     Ok(entries)
 }
 
-/// Reads a history text. `BadLine` names the first line that the grammar doesn't take: line 1 where the
-/// text doesn't begin with a header of version 1.
+/// Reads a history text. `BadLine` names the first line that the grammar doesn't take: line 1 where
+/// the text doesn't begin with a header of version 1. `OutOfMemory` says nothing of the text.
 pub fn read(alloc: Global, text: &[u8]) -> Result<HistoryText, HistError>
-    ensures reads { MatchResult result (λ t. ReadsText text.now (Ok t)) (SaysError text.now) }
-    ensures only { (r : Outcome) → ReadsText text.now r → MatchResult result (λ t. r ≡ Ok t) (IsSameError r) }
+    ensures reads { MatchResult result
+        (λ history. ReadsText text.now (Ok history)) (SaysError text.now) }
+    ensures only { (outcome : Outcome) → ReadsText text.now outcome
+        → MatchResult result (λ history. outcome ≡ Ok history) (IsSameError outcome) }
 {
     let found = header_at(alloc, text);
     match found {

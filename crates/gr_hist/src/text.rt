@@ -1,19 +1,15 @@
-//! What a history text says: its header and its entries, in which objects and tasks have their names.
-ghost use Rattle.std.specs.Prelude.{◌≡◌, [], ◌∷◌, ◌++◌, OnOk, OnErr};
-
-use gr_lang::{How, TaskId, TrapKind};
-use gr_lang::Words;
+//! What a history text says: its header and its entries, in which objects and tasks have names.
 use gr_accept::Operation;
+use gr_lang::{How, Sequence, TaskId, TrapKind, Words};
 use gr_syntax::Text;
-use std::alloc::{AllocError, Global};
-use std::marker::Model;
+use std::alloc::AllocError;
 use thiserror::Error;
 
 /// An entry of a history as its line tells it.
-#[derive(Debug, Drop)]
+#[derive(Drop)]
 pub enum NamedEntry {
-    /// A task's call of an object's operation, with its result words. The heap is the object `heap`. A
-    /// reducer is a number from 0 to 7.
+    /// A task's call of an object's operation, with its numbers and its result words. The heap is the
+    /// object `heap`. A reducer is a number from 0 to 7.
     Call {
         task: TaskId,
         object: Text,
@@ -72,50 +68,11 @@ pub enum NamedEntry {
 }
 
 /// A list of entries with names.
-#[derive(Debug, Drop)]
-pub struct NamedEntries {
-    entries: Vec<NamedEntry>,
-}
+pub type NamedEntries = Sequence<NamedEntry>;
 
-impl Model for NamedEntries {
-    ghost use Rattle.std.specs.Prelude.{List};
-    ghost use Rattle.gr_hist.specs.declared.text.NamedEntry.{NamedEntry};
-
-    ghost Value = { List NamedEntry };
-
-    ghost view = { λ e. e.entries.items };
-}
-
-impl NamedEntries {
-    /// No entries.
-    pub fn new(alloc: Global) -> NamedEntries
-        ensures { result ≡ [] }
-    {
-        NamedEntries {
-            entries: Vec::new(alloc),
-        }
-    }
-
-    /// The entries, lent.
-    pub fn as_slice(&self) -> &[NamedEntry]
-        ensures { result.now ≡ self.now }
-    {
-        self.entries.as_slice()
-    }
-
-    /// Puts an entry last. Unchanged where there is no memory.
-    pub fn push(&mut self, entry: NamedEntry) -> Result<(), AllocError>
-        ensures ok { OnOk result (self.new ≡ self.old ++ entry ∷ []) }
-        ensures err { OnErr result (self.new ≡ self.old) }
-    {
-        self.entries.push(entry)?;
-        Ok(())
-    }
-}
-
-/// A history text, read: the number of cores, 1 to 16, and the limit of steps, 1 to 2^40, of its header,
-/// and the entries of its further lines.
-#[derive(Debug, Drop)]
+/// A history text, read: the number of cores, 1 to 16, and the limit of steps, 1 to 2^40, of its
+/// header, and the entries of its further lines.
+#[derive(Drop)]
 pub struct HistoryText {
     pub cores: u64,
     pub steps: u64,

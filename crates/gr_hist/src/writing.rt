@@ -1,71 +1,57 @@
 //! The writer of history texts.
-ghost use Rattle.std.specs.Prelude.{◌≡◌, ◌++◌, ◌≤◌, ◌^◌, IfOk, OnOk, Ok, map, true};
+ghost use Rattle.std.specs.Prelude.{◌≡◌, ◌++◌, IfOk, OnOk, map, true};
 ghost use Rattle.gr_lang.specs.Histories.{legal};
-ghost use Rattle.gr_hist.specs.Grammar.{HasNumbers, ReadsText};
-ghost use Rattle.gr_hist.specs.Naming.{IsNamable, IsNamed, history_text, lines_of, named, named_by, named_call};
-ghost use Rattle.gr_hist.specs.Spelling.{header_parts, line_of, parts_of};
-ghost use Rattle.gr_hist.specs.Written.{HaveNumbers, named_shape};
+ghost use Rattle.gr_hist.specs.Grammar.{HasNumbers};
+ghost use Rattle.gr_hist.specs.Naming.{IsNamable, IsNamed, ReadsBack, history_text};
+ghost use Rattle.gr_hist.specs.Naming.{lines_of, named, named_parts};
+ghost use Rattle.gr_hist.specs.Spelling.{entry_line, header_line};
+ghost use Rattle.gr_hist.specs.WritingWords.{HaveNumbers};
 
 use crate::entry_lines::{put_begin, put_call, put_loop, put_mark, put_print, put_start, put_trap};
 use crate::putting::{put_number, put_text};
-use crate::shapes::{Shape, shape_of};
-use crate::tables::Tables;
 use gr_accept::Accepted;
-use gr_lang::{Entry, Op, Reply, TaskId};
-use gr_lang::History;
+use gr_lang::{Entry, History, Parts, Reply, TaskId};
+use gr_names::ProgramNames;
 use std::alloc::{AllocError, Global};
 
 /// Adds the line of a call that is taken apart, or of a print.
 #[tactic(auto, using(crate::proofs::Counts::counts))]
-fn put_shape(
+fn put_parts(
     out: &mut Vec<u8>,
-    tables: &Tables,
+    names: &ProgramNames,
     task: TaskId,
-    shape: Shape,
+    parts: Parts,
     reply: Reply,
 ) -> Result<(), AllocError>
-    ensures text { OnOk result (out.new.items ≡ out.old.items ++ line_of (parts_of (named_shape tables.now task shape reply))) }
-    ensures fits { OnOk result (HasNumbers (named_shape tables.now task shape reply)) }
+    ensures text { OnOk result (out.new.items ≡ out.old.items
+        ++ entry_line (named_parts names.now task parts reply)) }
+    ensures fits { OnOk result (HasNumbers (named_parts names.now task parts reply)) }
 {
-    match shape {
-        Shape::Call {
+    match parts {
+        Parts::Call {
+            operation,
             object,
-            op,
             reducer,
-            numbers,
+            words,
         } => {
-            let words = [reply.first, reply.second];
-            let name = tables.object(object);
-            let numbers = &numbers[..op.argument_count()];
-            let words = &words[..op.result_count()];
-            put_call(out, task, name, op, reducer, numbers, words)
+            let replied = [reply.first, reply.second];
+            let name = names.object_name(object);
+            let numbers = &words[..operation.argument_count()];
+            let results = &replied[..operation.result_count()];
+            put_call(out, task, name, operation, reducer, numbers, results)
         }
-        Shape::Print { word } => put_print(out, task, word),
+        Parts::Print { word } => put_print(out, task, word),
     }
 }
 
-/// Adds the line of a call or print.
-fn put_op(
-    out: &mut Vec<u8>,
-    tables: &Tables,
-    task: TaskId,
-    op: Op,
-    reply: Reply,
-) -> Result<(), AllocError>
-    ensures text { OnOk result (out.new.items ≡ out.old.items ++ line_of (parts_of (named_call tables.now task op reply))) }
-    ensures fits { OnOk result (HasNumbers (named_call tables.now task op reply)) }
-{
-    let shape = shape_of(op);
-    put_shape(out, tables, task, shape, reply)
-}
-
 /// Adds the line of an entry.
-fn put_entry(out: &mut Vec<u8>, tables: &Tables, entry: &Entry) -> Result<(), AllocError>
-    ensures text { OnOk result (out.new.items ≡ out.old.items ++ line_of (parts_of (named_by tables.now entry.now))) }
-    ensures fits { OnOk result (HasNumbers (named_by tables.now entry.now)) }
+fn put_entry(out: &mut Vec<u8>, names: &ProgramNames, entry: &Entry) -> Result<(), AllocError>
+    ensures text { OnOk result (out.new.items ≡ out.old.items
+        ++ entry_line (named names.now entry.now)) }
+    ensures fits { OnOk result (HasNumbers (named names.now entry.now)) }
 {
     match entry {
-        Entry::Call { task, op, reply } => put_op(out, tables, *task, *op, *reply),
+        Entry::Call { task, op, reply } => put_parts(out, names, *task, op.parts(), *reply),
         Entry::Spawn {
             task,
             how,
@@ -73,7 +59,7 @@ fn put_entry(out: &mut Vec<u8>, tables: &Tables, entry: &Entry) -> Result<(), Al
             args,
             child,
         } => {
-            let name = tables.task(*target);
+            let name = names.task_name(*target);
             put_start(out, *task, *how, name, args.as_slice(), *child)
         }
         Entry::Finish { task } => put_mark(out, *task, "finish"),
@@ -85,7 +71,7 @@ fn put_entry(out: &mut Vec<u8>, tables: &Tables, entry: &Entry) -> Result<(), Al
             target,
             args,
         } => {
-            let name = tables.task(*target);
+            let name = names.task_name(*target);
             put_loop(out, *task, *lo, *hi, *grain, name, args.as_slice())
         }
         Entry::Begin {
@@ -101,19 +87,20 @@ fn put_entry(out: &mut Vec<u8>, tables: &Tables, entry: &Entry) -> Result<(), Al
 }
 
 /// Adds the lines of entries.
-fn put_entries(out: &mut Vec<u8>, tables: &Tables, entries: &[Entry]) -> Result<(), AllocError>
-    ensures text { OnOk result (out.new.items ≡ out.old.items ++ lines_of (map (named_by tables.now) entries.now)) }
-    ensures fits { OnOk result (HaveNumbers tables.now entries.now) }
+fn put_entries(out: &mut Vec<u8>, names: &ProgramNames, entries: &[Entry]) -> Result<(), AllocError>
+    ensures text { OnOk result (out.new.items ≡ out.old.items
+        ++ lines_of (map (named names.now) entries.now)) }
+    ensures fits { OnOk result (HaveNumbers names.now entries.now) }
 {
     for entry in entries {
-        put_entry(out, tables, entry)?;
+        put_entry(out, names, entry)?;
     }
     Ok(())
 }
 
 /// Adds the first line.
 fn put_header(out: &mut Vec<u8>, cores: u64, steps: u64) -> Result<(), AllocError>
-    ensures { OnOk result (out.new.items ≡ out.old.items ++ line_of (header_parts cores steps)) }
+    ensures { OnOk result (out.new.items ≡ out.old.items ++ header_line cores steps) }
 {
     put_text(out, "history 1 cores ")?;
     put_number(out, cores)?;
@@ -122,9 +109,10 @@ fn put_header(out: &mut Vec<u8>, cores: u64, steps: u64) -> Result<(), AllocErro
     put_text(out, "\n")
 }
 
-/// The text of a history of the program, with the number of cores, 1 to 16, and the limit of steps, 1 to
-/// 2^40. Where each object and task of the history has a name that is one of the language, it reads as
-/// that history with its names; so it does where the history is legal and the program gives such names.
+/// The text of a history of the program, with the number of cores, 1 to 16, and the limit of steps,
+/// 1 to 2^40. Where each object and task of the history has a name that is one of the language, it
+/// reads as that history with its names; so it does where the history is legal and the program gives
+/// such names. An error is want of memory.
 pub fn write(
     alloc: Global,
     program: &Accepted,
@@ -132,15 +120,16 @@ pub fn write(
     steps: u64,
     history: &History,
 ) -> Result<Vec<u8>, AllocError>
-    ensures text { IfOk result (λ t. t.items ≡ history_text program.now cores steps history.now) }
-    ensures reads { IfOk result (λ t. IsNamable program.now history.now → 1 ≤ cores → cores ≤ 16 → 1 ≤ steps → steps ≤ 2 ^ 40
-        → ReadsText t.items (Ok (record { cores = cores; steps = steps; lines = map (named program.now) history.now }))) }
-    ensures reads_legal { IfOk result (λ t. IsNamed program.now → legal program.now cores steps history.now ≡ true → 1 ≤ cores → cores ≤ 16 → 1 ≤ steps → steps ≤ 2 ^ 40
-        → ReadsText t.items (Ok (record { cores = cores; steps = steps; lines = map (named program.now) history.now }))) }
+    ensures text { IfOk result
+        (λ text. text.items ≡ history_text program.now cores steps history.now) }
+    ensures reads { IsNamable program.now history.now
+        → IfOk result (λ text. ReadsBack program.now cores steps history.now text.items) }
+    ensures reads_legal { IsNamed program.now → legal program.now cores steps history.now ≡ true
+        → IfOk result (λ text. ReadsBack program.now cores steps history.now text.items) }
 {
-    let tables = Tables::new(alloc, program.program())?;
+    let names = ProgramNames::new(alloc, program.program())?;
     let mut out = Vec::new(alloc);
     put_header(&mut out, cores, steps)?;
-    put_entries(&mut out, &tables, history.as_slice())?;
+    put_entries(&mut out, &names, history.as_slice())?;
     Ok(out)
 }

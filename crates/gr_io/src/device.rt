@@ -15,13 +15,13 @@ pub struct Failed;
 
 /// Where bytes come from.
 ///
-/// It tells the bytes that are left, unless it can't know them, and a count of faults, which never
-/// falls.
+/// It tells the bytes that are left, unless it can't know them, and a count of its faults: the
+/// reads that failed, up to the last `u64`.
 pub trait Source {
     // the bytes that reads will give from here on, where the source knows them
     ghost left: { Self → Option (List ℕ) };
 
-    // how many faults it had; the count never falls
+    // how many of its reads failed
     ghost faults: { Self → ℕ };
 
     /// Reads into the front of `buf`, and answers how many bytes it gave there: the first of those
@@ -31,8 +31,7 @@ pub trait Source {
     ///
     /// # Errors
     ///
-    /// `Failed` comes only where the count of faults rose, and then what is left stays. A read that
-    /// succeeds counts none.
+    /// `Failed` counts one fault, and what is left stays. A read that succeeds counts none.
     fn read(&mut self, buf: &mut [u8]) -> Result<usize, Failed>
         ensures bound { ReadsAtMost result buf.new }
         ensures bytes { ReadConsumes (left self.old) (left self.new) result buf.new }
@@ -42,13 +41,13 @@ pub trait Source {
 
 /// Where bytes go.
 ///
-/// It tells the bytes that it got, unless it can't know them, and a count of faults, which never
-/// falls.
+/// It tells the bytes that it got, unless it can't know them, and a count of its faults: the
+/// writes that failed, up to the last `u64`.
 pub trait Sink {
     // the bytes that it got, where the sink knows them
     ghost got: { Self → Option (List ℕ) };
 
-    // how many faults it had; the count never falls
+    // how many of its writes failed
     ghost faults: { Self → ℕ };
 
     /// Adds bytes from the front of `piece` to those that it got, and answers how many: at least
@@ -56,8 +55,7 @@ pub trait Sink {
     ///
     /// # Errors
     ///
-    /// `Failed` comes only where the count of faults rose, and then what it got stays. A write that
-    /// succeeds counts none.
+    /// `Failed` counts one fault, and what it got stays. A write that succeeds counts none.
     fn write(&mut self, piece: &[u8]) -> Result<usize, Failed>
         ensures bound { TakesSome result piece.now }
         ensures bytes { WriteAppends (got self.old) (got self.new) result piece.now }

@@ -2,9 +2,9 @@
 ghost use Rattle.std.specs.Prelude.{◌≡◌, ℕ, ◌+◌, ◌-◌, ◌<◌, ◌≤◌, ◌↔◌, ◌++◌, List, [], Option, Some, drop, take, length, vec_len, vec_capacity, IfOk, OnErr, IsErr, Contains, min, ◌⊎◌};
 ghost use Rattle.std.specs.Io.{ReadsAtMost};
 ghost use Rattle.std.specs.Io.KnownBytes.{ReadConsumes, WriteAppends};
-ghost use Rattle.gr_io.specs.Faults.{HasCause, CountsFault, next_count};
+ghost use Rattle.gr_io.specs.Faults.{HasCause, CountsFault};
 ghost use Rattle.gr_io.specs.Amounts.{TakesSome};
-ghost use Rattle.gr_io.specs.Memory.{SourceState, SinkState};
+ghost use Rattle.gr_io.specs.Memory.{SourceState, new_source, after_read, after_failed_read, SinkState, new_sink, after_write, after_failed_write, Refuses};
 
 use crate::device::{Failed, Sink, Source};
 use std::alloc::{AllocError, Global};
@@ -40,13 +40,7 @@ impl MemSource {
     /// whose numbers, counted from 0, stand in `fails` fail.
     pub fn new(bytes: Vec<u8>, piece: usize, fails: Vec<u64>) -> MemSource
         requires { 0 < piece }
-        ensures { result ≡ record {
-          left = bytes.items;
-          piece = piece;
-          fails = fails.items;
-          calls = 0;
-          faults = 0;
-        } }
+        ensures { result ≡ new_source bytes.items piece fails.items }
     {
         MemSource {
             bytes,
@@ -82,22 +76,16 @@ impl Source for MemSource {
 
         // Just the chosen reads fail, and each of the others gives all that it may.
         ensures fails { IsErr result ↔ Contains self.old.fails self.old.calls }
-        ensures count { IfOk result (λ n.
-            n ≡ min (min (length self.old.left) self.old.piece) (length buf.old)) }
+        ensures count { IfOk result (λ count.
+            count ≡ min (min (length self.old.left) self.old.piece) (length buf.old)) }
 
         // Only the front of the buffer changes, and nothing of it where the read fails.
-        ensures rest { IfOk result (λ n. drop n buf.new ≡ drop n buf.old) }
+        ensures rest { IfOk result (λ count. drop count buf.new ≡ drop count buf.old) }
         ensures kept { OnErr result (buf.new ≡ buf.old) }
 
         // What the source is afterwards.
-        ensures ok { IfOk result (λ n. self.new ≡ record self.old {
-          left = drop n self.old.left;
-          calls = next_count self.old.calls;
-        }) }
-        ensures err { OnErr result (self.new ≡ record self.old {
-          calls = next_count self.old.calls;
-          faults = next_count self.old.faults;
-        }) }
+        ensures ok { IfOk result (λ count. self.new ≡ after_read self.old count) }
+        ensures err { OnErr result (self.new ≡ after_failed_read self.old) }
     {
         let fails = self.fails.contains(&self.calls);
         self.calls = self.calls.saturating_add(1);
@@ -154,14 +142,7 @@ impl MemSink {
         fails: Vec<u64>,
     ) -> Result<MemSink, AllocError>
         requires { 0 < piece }
-        ensures ok { IfOk result (λ sink. sink ≡ record {
-          got = [];
-          room = room;
-          piece = piece;
-          fails = fails.items;
-          calls = 0;
-          faults = 0;
-        }) }
+        ensures ok { IfOk result (λ sink. sink ≡ new_sink room piece fails.items) }
         ensures memory { OnErr result (0 < room) }
     {
         let bytes = Vec::with_capacity(alloc, room)?;
@@ -194,22 +175,14 @@ impl Sink for MemSink {
         ensures cause { HasCause self.old.faults self.new.faults result }
         ensures counted { CountsFault self.old.faults self.new.faults result }
 
-        // Just the chosen writes and those without room fail, and the others take all that they may.
-        ensures fails { IsErr result
-            ↔ (Contains self.old.fails self.old.calls ⊎ ((self.old.room ≡ 0) × (0 < length piece.now))) }
-        ensures count { IfOk result (λ n.
-            n ≡ min (min (length piece.now) self.old.piece) self.old.room) }
+        // Just the writes that it refuses fail, and the others take all that they may.
+        ensures fails { IsErr result ↔ Refuses self.old piece.now }
+        ensures count { IfOk result (λ count.
+            count ≡ min (min (length piece.now) self.old.piece) self.old.room) }
 
         // What the sink is afterwards.
-        ensures ok { IfOk result (λ n. self.new ≡ record self.old {
-          got = self.old.got ++ take n piece.now;
-          room = self.old.room - n;
-          calls = next_count self.old.calls;
-        }) }
-        ensures err { OnErr result (self.new ≡ record self.old {
-          calls = next_count self.old.calls;
-          faults = next_count self.old.faults;
-        }) }
+        ensures ok { IfOk result (λ count. self.new ≡ after_write self.old (take count piece.now)) }
+        ensures err { OnErr result (self.new ≡ after_failed_write self.old) }
     {
         let fails = self.fails.contains(&self.calls);
         let full = self.room == 0 && !piece.is_empty();

@@ -9,6 +9,9 @@ ghost use Rattle.gr_io.specs.Amounts.{TakesSome};
 use crate::device::{Failed, Sink, Source};
 use std::io::{ErrorKind, Read, Write};
 
+#[cfg(test)]
+mod tests;
+
 // How often one call tries again after a signal interrupted it. One try more counts as a fault.
 const TRIES: u64 = 1000;
 

@@ -8,6 +8,9 @@ use crate::device::{Sink, Source};
 use std::alloc::{AllocError, Global};
 use thiserror::Error;
 
+#[cfg(test)]
+mod tests;
+
 /// Why `read_all` gives no bytes.
 #[derive(Clone, Copy, Debug, PartialEq, Eq, Error)]
 pub enum ReadAllError {
@@ -44,8 +47,8 @@ pub struct WriteFault {
 // The most bytes that one read asks for.
 const PIECE: usize = 4096;
 
-/// Reads `source` to its end, where it holds at most `max` bytes. It asks for no byte beyond the
-/// first `max + 1`.
+/// Reads `source` to its end, where it holds at most `max` bytes, as `MAX_PROGRAM` or `MAX_REPLAY`.
+/// It asks for no byte beyond the first `max + 1`.
 ///
 /// # Errors
 ///
@@ -53,7 +56,8 @@ const PIECE: usize = 4096;
 /// `OutOfMemory` where the bytes, one or more and not more than `max`, find no room. The bytes read
 /// until then are gone from the source.
 pub fn read_all<S: Source>(alloc: Global, source: &mut S, max: u64) -> Result<Vec<u8>, ReadAllError>
-    ensures whole { IfOk result (λ bytes. Consumes (S.left source.old) (S.left source.new) bytes.items) }
+    ensures whole { IfOk result (λ bytes.
+        Consumes (S.left source.old) (S.left source.new) bytes.items) }
     ensures end { OnOk result (IsAtEnd (S.left source.new)) }
     ensures few { IfOk result (λ bytes. vec_len bytes ≤ max) }
 
@@ -97,7 +101,8 @@ pub fn read_all<S: Source>(alloc: Global, source: &mut S, max: u64) -> Result<Ve
 ///
 /// # Errors
 ///
-/// `WriteFault` where a write failed, and nowhere else: the sink got just the first `written` bytes.
+/// `WriteFault` where a write failed, and nowhere else. The sink got just the first `written`
+/// bytes.
 pub fn write_all<K: Sink>(sink: &mut K, bytes: &[u8]) -> Result<(), WriteFault>
     ensures all { OnOk result (Appends (K.got sink.old) (K.got sink.new) bytes.now) }
     ensures part { IfErr result (λ fault.

@@ -1,7 +1,9 @@
 -- The statements of an accepted program: no fault is at any of their sites, so each call in them is one of an object that the program has.
-use Rattle.std.proofs.Common.{◌≡◌, ℕ, zero, suc, ◌+◌, ◌<◌, Bool, true, false, not, ◌||◌, List, [], ◌∷◌, ◌++◌, length, map, slice_get, Option, Some, None, is_none, flat_map, inl, inr, ◌⊎◌, if◌then◌else◌, refl, sym, ap, ◌∙◌, subst, arith, codes}
+use Rattle.std.proofs.Common.{◌≡◌, ℕ, zero, suc, ◌+◌, ◌<◌, Bool, true, false, not, ◌||◌, List, [], ◌∷◌, ◌++◌, length, map, slice_get, Option, Some, None, is_none, unwrap_or, position, nat_lt, flat_map, inl, inr, ◌⊎◌, if◌then◌else◌, refl, sym, ap, ◌∙◌, subst, arith, codes}
 use Rattle.std.specs.Str.{bytes_eq}
+use Rattle.std.specs.List.{position_or_len}
 use Rattle.std.proofs.lemmas.Grind.{flat_map-append}
+use Rattle.std.proofs.lemmas.Slice.Eq.{bytes_eq-Decides}
 use Rattle.gr_syntax.specs.declared.syntax.Item.{Item}
 use Rattle.gr_syntax.specs.declared.syntax.Item.TheVariants as i
 use Rattle.gr_syntax.specs.declared.syntax.Name.{Name}
@@ -17,13 +19,16 @@ use Rattle.gr_accept.specs.declared.operation.Declared.{Declared}
 use Rattle.gr_accept.specs.declared.operation.Declared.TheVariants as d
 use Rattle.gr_syntax.specs.declared.refusal.Kind.{Kind}
 use Rattle.gr_accept.specs.Accepted.{IsAccepted, heads_sites, uses_sites}
-use Rattle.gr_accept.specs.Conditions.{faults_at, has_main, is_task}
+use Rattle.gr_accept.specs.Conditions.{faults_at, has_main, is_object, is_task, misses}
 use Rattle.gr_accept.specs.Declarations.{Meaning, first_named}
 use Rattle.gr_syntax.specs.Faults.{when}
 use Rattle.gr_syntax.specs.Names.{has}
 use Rattle.gr_syntax.specs.declared.limits.TheConstants.{HEAP}
 use Rattle.gr_syntax.specs.Items.{TaskText, tasks_of, object_names}
-use Rattle.gr_lang.specs.Openings.{object_of, place_of}
+use Rattle.gr_lang.specs.Openings.{object_of}
+use Rattle.gr_accept.specs.declared.operation.Operation.{Operation}
+use Rattle.gr_accept.specs.declared.operation.Holder.TheVariants as holder
+use Rattle.gr_accept.specs.Operations.{holds, operation_of, signature_of}
 use Rattle.gr_accept.specs.Sites.{Site, fills, shows, calls, begins, ends}
 use Rattle.gr_accept.specs.Walks.{Part, LexicalScope, all, stmt, stmts, stmt_step, givens, call_sites, right_sites, expr_sites, body_sites}
 use Rattle.gr_known.specs.Known.{IsObject}
@@ -75,6 +80,10 @@ unbroken : (b : Bool) (kind : Kind) (at : Place) → when b kind at ≡ [] → b
 unbroken true kind at e = cc
 unbroken false kind at e = refl
 
+not_false : (b : Bool) → not b ≡ false → b ≡ true
+not_false true e = refl
+not_false false e = cc
+
 object_one : (t : Bool) (declared : Declared) (rest : Option Declared) (heap more : Bool) → is_none (if t then Some declared else rest) ≡ false → is_task (if t then Some declared else rest) ≡ false
     → (is_none rest ≡ false → is_task rest ≡ false → (heap ≡ true) ⊎ (more ≡ true)) → (heap ≡ true) ⊎ ((t || more) ≡ true)
 object_one true declared rest heap more a b k = inr refl
@@ -104,31 +113,100 @@ named_object (i.Input n values ∷ more) name a b = named_object more name a b
 named_object (i.Task n params body ∷ more) name a b = task_one (bytes_eq name n.text) (length params) (first_named more name) _ _ a b (named_object more name)
 
 -- A name of the list has a place in it.
-place_in : (names : List (List ℕ)) (name : List ℕ) → has names name ≡ true → place_of names name < length names
-place_in [] name h = cc
-place_in (n ∷ ns) name h = by (place_in ns name) (bytes_eq name n) h
+place_in : (names : List (List ℕ)) (name : List ℕ) → has names name ≡ true → unwrap_or (position (bytes_eq name) names) 0 < length names
+place_in names name h = either (nat_lt (position_or_len (bytes_eq name) names) (length names)) (less names h)
   where
-    by : (has ns name ≡ true → place_of ns name < length ns) → (t : Bool) → (t || has ns name) ≡ true → (if t then 0 else place_of ns name + 1) < suc (length ns)
-    by rest true e = omega arith
-    by rest false e = omega (arith, rest e)
+    step : (t : Bool) (ns : List (List ℕ)) (k : ℕ) → (has ns name ≡ true → k < length ns) → (t || has ns name) ≡ true → (if not t then 1 + k else 0) < suc (length ns)
+    step true ns k f e = omega arith
+    step false ns k f e = omega (arith, f e)
 
-object_in : (p : Program) (name : List ℕ) → (bytes_eq name (codes "heap") ≡ true) ⊎ (has (object_names p.items) name ≡ true) → IsObject p (object_of p name)
-object_in p name h = by (bytes_eq name (codes "heap")) h
+    less : (ns : List (List ℕ)) → has ns name ≡ true → position_or_len (bytes_eq name) ns < length ns
+    less [] e = cc
+    less (n ∷ ns) e = step (bytes_eq name n) ns (position_or_len (bytes_eq name) ns) (less ns) e
+
+    either : (b : Bool) → position_or_len (bytes_eq name) names < length names → unwrap_or (if b then Some (position_or_len (bytes_eq name) names) else None) 0 < length names
+    either true l = l
+    either false l = omega (arith, l)
+
+is_object_of : (o : Option Declared) → is_none o ≡ false → is_task o ≡ false → is_object o ≡ true
+is_object_of None a b = cc
+is_object_of (Some (d.Task params)) a b = cc
+is_object_of (Some (d.Array words)) a b = refl
+is_object_of (Some d.Set) a b = refl
+is_object_of (Some d.Map) a b = refl
+is_object_of (Some d.Vector) a b = refl
+is_object_of (Some d.Heap) a b = refl
+
+object_in : (p : Program) (name : List ℕ) → is_object (first_named p.items name) ≡ true → (bytes_eq name (codes "heap") ≡ true) ⊎ (has (object_names p.items) name ≡ true) → IsObject p (object_of p name)
+object_in p name o h = by (bytes_eq name (codes "heap")) refl h
   where
-    by : (t : Bool) → (t ≡ true) ⊎ (has (object_names p.items) name ≡ true) → IsObject p (if t then HEAP else place_of (object_names p.items) name)
-    by true k = inl refl
-    by false (inl e) = cc
-    by false (inr e) = inr (place_in (object_names p.items) name e)
+    by : (t : Bool) → bytes_eq name (codes "heap") ≡ t → (t ≡ true) ⊎ (has (object_names p.items) name ≡ true)
+        → IsObject p (unwrap_or (if t then Some HEAP else position (bytes_eq name) (object_names p.items)) 0)
+    by true e k = inl (refl, ap (λ x. is_object (first_named p.items x)) (sym ((bytes_eq-Decides name (codes "heap")).0 e)) ∙ o)
+    by false e (inl k) = cc
+    by false e (inr k) = inr (place_in (object_names p.items) name k)
 
--- A call with no fault is one of an object that the program has.
-call_named : (p : Program) (c : CallText) (targets : List Name) → faults_at (first_named p.items) (calls c targets) ≡ [] → IsObject p (object_of p c.object.text)
+-- What is declared as the heap is named `heap`.
+skip : (name : List ℕ) (t : Bool) (x : Declared) (rest : Option Declared) → (x ≡ d.Heap → bytes_eq name (codes "heap") ≡ true) → (if t then Some x else rest) ≡ Some d.Heap
+    → (rest ≡ Some d.Heap → bytes_eq name (codes "heap") ≡ true) → bytes_eq name (codes "heap") ≡ true
+skip name true x rest n e k = let same : x ≡ d.Heap = cc in n same
+skip name false x rest n e k = k e
+
+heap_named : (items : List Item) (name : List ℕ) → first_named items name ≡ Some d.Heap → bytes_eq name (codes "heap") ≡ true
+heap_named [] name e = cc
+heap_named (i.Array n words ∷ more) name e = skip name (bytes_eq name n.text) (d.Array words.value) (first_named more name) (λ k. cc) e (heap_named more name)
+heap_named (i.Set n ∷ more) name e = skip name (bytes_eq name n.text) d.Set (first_named more name) (λ k. cc) e (heap_named more name)
+heap_named (i.Map n ∷ more) name e = skip name (bytes_eq name n.text) d.Map (first_named more name) (λ k. cc) e (heap_named more name)
+heap_named (i.Vector n ∷ more) name e = skip name (bytes_eq name n.text) d.Vector (first_named more name) (λ k. cc) e (heap_named more name)
+heap_named (i.Heap words ∷ more) name e = by (bytes_eq name (codes "heap")) refl e (heap_named more name)
+  where
+    by : (t : Bool) → bytes_eq name (codes "heap") ≡ t → (if t then Some d.Heap else first_named more name) ≡ Some d.Heap
+        → (first_named more name ≡ Some d.Heap → bytes_eq name (codes "heap") ≡ true) → bytes_eq name (codes "heap") ≡ true
+    by true e k f = e
+    by false e k f = f k
+heap_named (i.Show n ∷ more) name e = heap_named more name e
+heap_named (i.Input n values ∷ more) name e = heap_named more name e
+heap_named (i.Task n params body ∷ more) name e = skip name (bytes_eq name n.text) (d.Task (length params)) (first_named more name) (λ k. cc) e (heap_named more name)
+
+-- An operation on the blocks of the heap.
+abbrev pub IsOnBlocks : Operation → Type 0
+IsOnBlocks operation = (signature_of operation).holder ≡ holder.Heap
+
+-- What such an operation works on is declared as the heap.
+works_on_heap : (operation : Operation) (o : Option Declared) → IsOnBlocks operation → is_object o ≡ true → misses o (Some operation) ≡ false → o ≡ Some d.Heap
+works_on_heap operation None b h m = cc
+works_on_heap operation (Some (d.Task params)) b h m = cc
+works_on_heap operation (Some (d.Array words)) b h m = not_held (d.Array words) (λ e. cc) (ap (λ x. holds x (d.Array words)) (sym b) ∙ not_false _ m)
+  where
+    not_held : (x : Declared) → (holds holder.Heap x ≡ true → ⊥) → holds holder.Heap x ≡ true → Some x ≡ Some d.Heap
+    not_held x f e = absurd (f e)
+works_on_heap operation (Some d.Set) b h m = let e : holds holder.Heap d.Set ≡ true = ap (λ x. holds x d.Set) (sym b) ∙ not_false _ m in cc
+works_on_heap operation (Some d.Map) b h m = let e : holds holder.Heap d.Map ≡ true = ap (λ x. holds x d.Map) (sym b) ∙ not_false _ m in cc
+works_on_heap operation (Some d.Vector) b h m = let e : holds holder.Heap d.Vector ≡ true = ap (λ x. holds x d.Vector) (sym b) ∙ not_false _ m in cc
+works_on_heap operation (Some d.Heap) b h m = refl
+
+-- A call is one of an object that the program has, and of the heap where it is on the heap's blocks.
+pub record IsSoundCall (p : Program) (c : CallText) : Type 0 where
+  pub object : IsObject p (object_of p c.object.text)
+  pub heap : (operation : Operation) → operation_of c.op.text ≡ Some operation → IsOnBlocks operation → IsObject p HEAP
+
+-- A call with no fault is such a one.
+call_named : (p : Program) (c : CallText) (targets : List Name) → faults_at (first_named p.items) (calls c targets) ≡ [] → IsSoundCall p c
 unfolding faults_at
 call_named p c targets h =
     let there : is_none (first_named p.items c.object.text) ≡ false = unbroken _ _ _ (front_empty _ _ (front_empty _ _ (front_empty _ _ h))) in
     let kind : is_task (first_named p.items c.object.text) ≡ false = unbroken _ _ _ (front_empty _ _ (front_empty _ _ (back_empty _ _ h))) in
-    object_in p c.object.text (named_object p.items c.object.text there kind)
+    let is : is_object (first_named p.items c.object.text) ≡ true = is_object_of (first_named p.items c.object.text) there kind in
+    let fits : misses (first_named p.items c.object.text) (operation_of c.op.text) ≡ false = unbroken _ _ _ (back_empty _ _ (front_empty _ _ (back_empty _ _ h))) in
+    record {
+      object = object_in p c.object.text is (named_object p.items c.object.text there kind);
+      heap = λ operation e b.
+          let heap : first_named p.items c.object.text ≡ Some d.Heap = works_on_heap operation (first_named p.items c.object.text) b is (ap (misses (first_named p.items c.object.text)) (sym e) ∙ fits) in
+          let name : c.object.text ≡ codes "heap" = (bytes_eq-Decides c.object.text (codes "heap")).0 (heap_named p.items c.object.text heap) in
+          inl (refl, ap (λ x. is_object (first_named p.items x)) (sym name) ∙ is);
+    }
 
-call_clean : (p : Program) (c : CallText) (targets : List Name) (visible : List (List ℕ)) → Clean p (call_sites targets c visible) → IsObject p (object_of p c.object.text)
+call_clean : (p : Program) (c : CallText) (targets : List Name) (visible : List (List ℕ)) → Clean p (call_sites targets c visible) → IsSoundCall p c
 call_clean p c targets visible h = call_named p c targets (front_empty _ _ h)
 
 -- ---- one level of a statement
@@ -136,12 +214,12 @@ call_clean p c targets visible h = call_named p c targets (front_empty _ _ h)
 -- The right side of an assignment is an expression, or a call of an object that the program has.
 abbrev pub IsRight : Program → Right → Type 0
 IsRight p (r.Value e) = Unit {0}
-IsRight p (r.Result c) = IsObject p (object_of p c.object.text)
+IsRight p (r.Result c) = IsSoundCall p c
 
 -- What stands in a statement has no fault.
 abbrev pub Inside : Program → Stmt-F Stmt → Type 0
 Inside p (Stmt-F.Set1 fresh targets right) = IsRight p right
-Inside p (Stmt-F.Do c) = IsObject p (object_of p c.object.text)
+Inside p (Stmt-F.Do c) = IsSoundCall p c
 Inside p (Stmt-F.If test one other) = AreSeen p one × AreSeen p other
 Inside p (Stmt-F.While test body) = AreSeen p body
 Inside p (Stmt-F.Finish body) = AreSeen p body
@@ -182,10 +260,6 @@ some_task (i.Heap words ∷ more) h = some_task more h
 some_task (i.Show n ∷ more) h = some_task more h
 some_task (i.Input n values ∷ more) h = some_task more h
 some_task (i.Task n params body ∷ more) h = omega arith
-
-not_false : (b : Bool) → not b ≡ false → b ≡ true
-not_false true e = refl
-not_false false e = cc
 
 main_there : (m : Meaning) (at : Place) (items : List Item) → faults_at m (ends at items) ≡ [] → has_main items ≡ true
 unfolding faults_at

@@ -29,7 +29,8 @@ use Rattle.gr_valid.proofs.Maps.{IsPut, found_put}
 use Rattle.gr_valid.proofs.Inverts.{by_found, by_going, by_loop, tells_when}
 use Rattle.gr_known.specs.Known.{IsKnown, IsKnownCall, IsTask, HistoriesAreKnown}
 use Rattle.gr_known.proofs.Bodies.{IsSound, sound}
-use Rattle.gr_known.proofs.Actions.{IsKnownAction, op_is, both_true}
+use Rattle.gr_known.proofs.Actions.{IsKnownAction, both_true}
+use Rattle.gr_lang.proofs.Operations.{op_is}
 use Rattle.gr_known.proofs.Looks.{AreToDo, IsKnownStand, next_known, goes_on_known, start_known}
 
 -- The task stands at an action that names what the program has, and so will each of its later actions.

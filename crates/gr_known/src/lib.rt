@@ -1,4 +1,6 @@
 //! What the entries of a legal history name: objects, reducers and tasks that the program has.
 #![tactic(auto)]
 
-pub mod laws;
+mod laws;
+
+pub use laws::histories_are_known;

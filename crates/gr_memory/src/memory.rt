@@ -1,5 +1,6 @@
 //! The plain memory: words in arrays and the heap, sets, maps, vectors and the live blocks.
 ghost use Rattle.std.specs.Prelude.{◌≡◌, ◌+◌, ◌≤◌, ◌<◌, ◌^◌, All, IfOk, IfSome, OnErr, OnOk, length, slice_index, slice_set};
+ghost use Rattle.gr_syntax.specs.declared.limits.TheConstants.{MAX_WORDS};
 ghost use Rattle.std.specs.FinMap as fin;
 ghost use Rattle.gr_lang.specs.Objects as spec;
 ghost use Rattle.gr_memory.specs.Ranges.{LiesIn};
@@ -49,7 +50,7 @@ impl Memory {
     ) -> Result<Memory, AllocError>
         requires arrays { All (LiesIn (length words.items)) things.items }
         requires heap { heap_from + heap_count ≤ length words.items }
-        requires small { heap_count ≤ 2 ^ 24 }
+        requires small { heap_count ≤ MAX_WORDS }
         ensures { IfOk result (λ memory. memory ≡ record {
           words = words.items;
           things = things.items;

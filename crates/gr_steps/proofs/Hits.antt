@@ -1,7 +1,7 @@
 -- A local that is set, in the list of all.
-use Rattle.std.proofs.Common.{◌≡◌, ℕ, zero, suc, ◌+◌, ◌<◌, Bool, true, List, [], ◌∷◌, ◌++◌, length, take, drop, refl, ap, arith, cond, slice_index_or, slice_set}
+use Rattle.std.proofs.Common.{◌≡◌, ℕ, zero, suc, ◌<◌, true, List, [], ◌∷◌, ◌++◌, length, take, drop, refl, ap, arith, slice_index_or, slice_set}
 use Rattle.std.specs.Str.{bytes_eq}
-use Rattle.gr_lang.specs.Locals.{Locals, set_word}
+use Rattle.gr_lang.specs.Locals.{set_word}
 use Rattle.gr_steps.specs.LocalView.{locals_of, pair_of}
 use Rattle.gr_steps.specs.declared.locals.Local.{Local}
 

@@ -1,5 +1,5 @@
 -- What stands first, where it is a print or a loop.
-use Rattle.std.proofs.Common.{◌≡◌, ℕ, Option, List, [], ◌∷◌, refl, ap}
+use Rattle.std.proofs.Common.{◌≡◌, ℕ, Option, List, ◌∷◌, refl, ap}
 use Rattle.gr_lang.proofs.Opens.{out-Print, out-Forall}
 use Rattle.gr_syntax.specs.declared.syntax.Program.{Program}
 use Rattle.gr_syntax.specs.declared.syntax.Expr.{Expr}
@@ -8,7 +8,7 @@ use Rattle.gr_syntax.specs.declared.syntax.Stmt.TheVariants as s
 use Rattle.gr_lang.specs.declared.action.Action.{Action}
 use Rattle.gr_lang.specs.Expressions.{values}
 use Rattle.gr_lang.specs.Next.{Running, Todo, run, look, acts, acted, loop_action, print_action}
-use Rattle.gr_steps.specs.Ranges.{range_words, ranged}
+use Rattle.gr_steps.specs.RangeWords.{range_words, ranged}
 use Rattle.gr_steps.proofs.Ranges.{values_range}
 
 pub look_print : (p : Program) (t : Running) (e : Expr) (rest : List Todo) → t.todo ≡ run (s.Print e) ∷ rest → look p t ≡ acts (print_action t.locals e)

@@ -1,10 +1,10 @@
 -- A loop's bounds, its grain and its arguments, evaluated as one list.
-use Rattle.std.proofs.Common.{◌≡◌, ℕ, List, [], ◌∷◌, Option, Some, None, refl}
+use Rattle.std.proofs.Common.{◌≡◌, ℕ, List, ◌∷◌, Option, Some, None, refl}
 use Rattle.std.specs.Option.{option_map, option_and_then}
 use Rattle.gr_lang.specs.Locals.{Locals}
 use Rattle.gr_lang.specs.Expressions.{value, values}
 use Rattle.gr_syntax.specs.declared.syntax.Expr.{Expr}
-use Rattle.gr_steps.specs.Ranges.{range_words, ranged}
+use Rattle.gr_steps.specs.RangeWords.{range_words, ranged}
 
 joined : (a b c : Option ℕ) (rest : Option (List ℕ))
     → option_and_then (λ w. option_map (λ ws. w ∷ ws) (option_and_then (λ v. option_map (λ ws. v ∷ ws) (option_and_then (λ u. option_map (λ ws. u ∷ ws) rest) c)) b)) a

@@ -1,5 +1,7 @@
+pub mod HeapRanges
+-- For proofs and private functions.
 pub mod LocalView
-pub mod Ranges
+pub mod RangeWords
 pub mod TableView
 pub mod RunningView
-pub mod Turns
+pub mod TurnWords

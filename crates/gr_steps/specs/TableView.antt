@@ -1,31 +1,26 @@
 -- What the tables of a program stand for.
-use Rattle.std.specs.Prelude.{◌≡◌, ℕ, Bool, false, nat_lt, Option, Some, None, ◌+◌, if◌then◌else◌, List, [], ◌∷◌, ◌++◌, map}
-use Rattle.std.specs.Str.{bytes_eq}
+use Rattle.std.specs.Prelude.{◌≡◌, ℕ, Bool, false, nat_lt, Option, Some, None, List, [], ◌∷◌, ◌++◌, map}
 use Rattle.gr_steps.specs.declared.table.TaskRow.{TaskRow}
-use Rattle.gr_steps.specs.declared.table.HeapRange.{HeapRange}
+use Rattle.gr_steps.specs.HeapRanges.{IsHeap}
 use Rattle.gr_steps.specs.declared.table.Table.TheInside.{Inside}
 use Rattle.gr_syntax.specs.declared.syntax.Item.{Item}
 use Rattle.gr_syntax.specs.declared.syntax.Item.TheVariants as i
-use Rattle.gr_syntax.specs.declared.syntax.Number.{Number}
-use Rattle.gr_syntax.specs.declared.syntax.Program.{Program}
 use Rattle.gr_syntax.specs.declared.syntax.Stmt.{Stmt}
-use Rattle.gr_syntax.specs.Items.{TaskText, object_names, tasks_of}
-use Rattle.gr_lang.specs.Openings.{heap_of}
+use Rattle.gr_syntax.specs.Items.{TaskText, tasks_of}
 use Rattle.gr_lang.specs.Next.{Running, given, lets_of, runs}
 
--- A task of the text, with the names of its locals.
+-- A task of the text: the names of its locals, and its body.
 pub record Known : Type 0 where
-  pub name : List ℕ
   pub locals : List (List ℕ)
   pub body : List Stmt
 
 -- A task of the table.
 abbrev pub row_of : TaskRow → Known
-row_of r = record { name = r.name.now; locals = map (λ n. n.now) r.locals.items; body = r.body.now }
+row_of r = record { locals = map (λ n. n.now) r.locals.items; body = r.body.now }
 
 -- A task with its locals: its parameters, then what its body gives.
 abbrev pub known_of : TaskText → Known
-known_of t = record { name = t.name; locals = t.params ++ lets_of t.body; body = t.body }
+known_of t = record { locals = t.params ++ lets_of t.body; body = t.body }
 
 -- The tasks in their order.
 abbrev pub knowns_of : List TaskText → List Known
@@ -35,11 +30,6 @@ knowns_of = map known_of
 abbrev pub started : Option Known → List ℕ → Running
 started None ws = record { todo = []; locals = [] }
 started (Some t) ws = record { todo = runs t.body; locals = given t.locals ws }
-
--- The number of the first task of that name, where the list starts with number k; 0 where there is none.
-abbrev pub number_from : ℕ → List Known → List ℕ → ℕ
-number_from k [] name = 0
-number_from k (t ∷ ts) name = if bytes_eq name t.name then k else number_from (k + 1) ts name
 
 -- The number of places of each object: an array has places, and no other object has.
 abbrev pub reaches_of : List Item → List ℕ
@@ -55,14 +45,8 @@ abbrev pub within : Option ℕ → ℕ → Bool
 within None place = false
 within (Some reach) place = nat_lt place reach
 
--- The range is that of the program's heap.
-pub record IsHeap (h : HeapRange) (p : Program) : Type 0 where
-  pub from : h.from ≡ (heap_of p).from
-  pub count : h.count ≡ (heap_of p).count
-
 -- The tables are those of the program.
 pub record IsTable (t : Inside) : Type 0 where
-  pub objects : map (λ n. n.now) t.objects.items ≡ object_names t.program.now.items
-  pub reaches : t.reaches.items ≡ reaches_of t.program.now.items
-  pub tasks : map row_of t.tasks.items ≡ knowns_of (tasks_of t.program.now.items)
-  pub heap : IsHeap t.heap t.program.now
+  pub reaches : t.reaches.items ≡ reaches_of t.names.items
+  pub tasks : map row_of t.tasks.items ≡ knowns_of (tasks_of t.names.items)
+  pub heap : IsHeap t.heap t.names

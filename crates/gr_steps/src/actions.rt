@@ -3,14 +3,13 @@ ghost use Rattle.std.specs.Prelude.{◌≡◌, IfOk};
 ghost use Rattle.gr_lang.specs.Next.{acted, call_action as call_action_of, fits as fits_in, how_of as way_of, loop_action as loop_action_of, named_action as named_action_of, print_action as print_action_of, reducer_number as reducer_number_of, spawn_action as spawn_action_of};
 ghost use Rattle.gr_lang.specs.Expressions.{values};
 ghost use Rattle.gr_lang.specs.Openings.{opening};
-ghost use Rattle.gr_steps.specs.Ranges.{range_words, ranged};
+ghost use Rattle.gr_steps.specs.RangeWords.{range_words, ranged};
 
 use crate::expressions::{value_of, values_of};
 use crate::locals::LocalWords;
 use crate::table::Table;
-use gr_lang::{Action, How, Op, TrapKind};
-use gr_lang::op_of;
 use gr_accept::{Operation, operation_of, reducer_of};
+use gr_lang::{Action, How, Op, TrapKind, op_of};
 use gr_syntax::{CallText, Expr, Exprs, HowText, Name};
 use std::alloc::{AllocError, Global};
 
@@ -40,7 +39,7 @@ fn reducer_number(reducer: &Option<Name>) -> u64
 {
     match reducer {
         None => 0,
-        Some(name) => reducer_of(&name.text).unwrap_or(0),
+        Some(name) => reducer_of(name.text.as_bytes()).unwrap_or(0),
     }
 }
 
@@ -99,7 +98,7 @@ pub fn call_action(
         Some(words) => {
             let object = table.object_of(&call.object.text);
             let reducer = reducer_number(&call.reducer);
-            let operation = operation_of(&call.op.text);
+            let operation = operation_of(call.op.text.as_bytes());
             Ok(named_action(table, operation, object, reducer, words.as_slice()))
         }
     }

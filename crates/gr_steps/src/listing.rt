@@ -1,29 +1,12 @@
-//! The objects and tasks of a program's items, listed in the order of their numbers.
+//! What a program's items say of its objects and tasks, in the order of their numbers.
 ghost use Rattle.std.specs.Prelude.{◌≡◌, ◌++◌, IfOk, OnOk, map};
 ghost use Rattle.gr_lang.specs.Next.{lets, lets_of};
-ghost use Rattle.gr_syntax.specs.Items.{object_names, tasks_of, texts};
+ghost use Rattle.gr_syntax.specs.Items.{tasks_of, texts};
 ghost use Rattle.gr_steps.specs.TableView.{knowns_of, reaches_of, row_of};
 
 use crate::table::TaskRow;
 use gr_syntax::{Item, Names, Stmt, Text};
 use std::alloc::{AllocError, Global};
-
-/// The names of the objects other than the heap.
-pub fn object_names_of<'a>(alloc: Global, items: &'a [Item]) -> Result<Vec<&'a Text>, AllocError>
-    ensures { IfOk result (λ names. map (λ n. n.now) names.items ≡ object_names items.now) }
-{
-    let mut names = Vec::new(alloc);
-    for item in items {
-        match item {
-            Item::Array { name, .. } => names.push(&name.text)?,
-            Item::Set { name } => names.push(&name.text)?,
-            Item::Map { name } => names.push(&name.text)?,
-            Item::Vector { name } => names.push(&name.text)?,
-            _ => (),
-        }
-    }
-    Ok(names)
-}
 
 /// The number of places of each object; only arrays have places.
 pub fn reaches_in(alloc: Global, items: &[Item]) -> Result<Vec<u64>, AllocError>
@@ -108,13 +91,9 @@ pub fn task_rows<'a>(alloc: Global, items: &'a [Item]) -> Result<Vec<TaskRow<'a>
     let mut rows = Vec::new(alloc);
     for item in items {
         match item {
-            Item::Task { name, params, body } => {
+            Item::Task { params, body, .. } => {
                 let locals = locals_of(alloc, params, body.as_slice())?;
-                rows.push(TaskRow {
-                    name: &name.text,
-                    locals,
-                    body,
-                })?;
+                rows.push(TaskRow { locals, body })?;
             }
             _ => (),
         }

@@ -2,7 +2,7 @@
 ghost use Rattle.std.specs.Prelude.{◌≡◌, ◌∷◌, ◌++◌, [], OnOk, IfOk, Some};
 ghost use Rattle.gr_lang.specs.Next.{arrive, go_on, look, look_if, look_set, look_while, next, runs, set_all, start};
 ghost use Rattle.gr_lang.specs.Expressions.{value};
-ghost use Rattle.gr_steps.specs.Turns.{IsTop, tail_of, Turns};
+ghost use Rattle.gr_steps.specs.TurnWords.{IsTop, tail_of, Turns};
 ghost use Rattle.gr_steps.specs.TableView.{row_of, started};
 
 use crate::actions::{call_action, loop_action, print_action, range_of, spawn_action};

@@ -1,22 +1,21 @@
 //! The tables of a program, made once as a run opens: its objects and tasks by name and by number.
-ghost use Rattle.std.specs.Prelude.{◌≡◌, IfOk, is_some, map, slice_get};
+ghost use Rattle.std.specs.Prelude.{◌≡◌, IfOk, is_some, slice_get};
 ghost use Rattle.gr_lang.specs.Objects.{address, heap_address};
 ghost use Rattle.gr_syntax.specs.Items.{tasks_of};
 ghost use Rattle.gr_lang.specs.Openings.{heap_of, object_of, opening, target_of};
-ghost use Rattle.gr_steps.specs.TableView.{IsHeap, knowns_of, number_from, reaches_of, row_of, within};
+ghost use Rattle.gr_steps.specs.HeapRanges.{IsHeap};
+ghost use Rattle.gr_steps.specs.TableView.{knowns_of, reaches_of, row_of, within};
 ghost use Rattle.std.specs.Option.{option_map};
 
-use crate::listing::{object_names_of, reaches_in, task_rows};
-use gr_syntax::HEAP;
-use gr_syntax::{Block, Program, Text};
+use crate::listing::{reaches_in, task_rows};
+use gr_names::ProgramNames;
+use gr_syntax::{Block, HEAP, Program, Text};
 use std::alloc::{AllocError, Global};
 use std::marker::Model;
 
-/// A task of the text: its name, its locals (first its parameters, then what its body gives with `let`)
-/// and its body.
+/// A task of the text: its locals (first its parameters, then what its body gives with `let`) and its body.
 #[derive(Drop)]
 pub struct TaskRow<'a> {
-    pub name: &'a Text,
     pub locals: Vec<&'a Text>,
     pub body: &'a Block,
 }
@@ -31,8 +30,7 @@ pub struct HeapRange {
 /// A program by name and number, which contracts see as the program.
 #[derive(Drop)]
 pub struct Table<'a> {
-    program: &'a Program,
-    objects: Vec<&'a Text>,
+    names: ProgramNames<'a>,
     reaches: Vec<u64>,
     tasks: Vec<TaskRow<'a>>,
     heap: HeapRange,
@@ -49,22 +47,9 @@ impl<'a> Model for Table<'a> {
 
     ghost use Rattle.gr_steps.specs.TableView.{IsTable};
 
-    ghost view = { λ t. t.program.now };
+    ghost view = { λ t. t.names };
 
     ghost invariant = { IsTable };
-}
-
-fn number_of(tasks: &[TaskRow], name: &Text) -> u64
-    ensures { result ≡ number_from 0 (map row_of tasks.now) name.now }
-{
-    let mut at = 0;
-    for row in tasks {
-        if name.is(row.name) {
-            return at;
-        }
-        at += 1;
-    }
-    0
 }
 
 impl<'a> Table<'a> {
@@ -78,33 +63,22 @@ impl<'a> Table<'a> {
         ensures { IfOk result (λ table. table ≡ program.now) }
     {
         let items = program.items.as_slice();
-        let objects = object_names_of(alloc, items)?;
+        let names = ProgramNames::new(alloc, program)?;
         let reaches = reaches_in(alloc, items)?;
         let tasks = task_rows(alloc, items)?;
         Ok(Table {
-            program,
-            objects,
+            names,
             reaches,
             tasks,
             heap,
         })
     }
 
-    /// The number of the object of that name; 255 for the heap.
+    /// The number of the object of that name, 255 for the heap; 0 where there is none.
     pub fn object_of(&self, name: &Text) -> u64
         ensures { result ≡ object_of self.now name.now }
     {
-        if name.is_word("heap") {
-            return HEAP;
-        }
-        let mut at = 0;
-        for other in &self.objects {
-            if name.is(other) {
-                return at;
-            }
-            at += 1;
-        }
-        at
+        self.names.object(name).unwrap_or(0)
     }
 
     /// The task of that number.
@@ -118,7 +92,7 @@ impl<'a> Table<'a> {
     pub fn target_of(&self, name: &Text) -> u64
         ensures { result ≡ target_of self.now name.now }
     {
-        number_of(self.tasks.as_slice(), name)
+        self.names.task(name).unwrap_or(0)
     }
 
     fn is_in_heap(&self, place: u64) -> bool

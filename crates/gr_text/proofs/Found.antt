@@ -8,7 +8,8 @@ use Rattle.gr_text.specs.declared.token.Keyword.{Keyword}
 use Rattle.gr_text.specs.declared.token.TokenKind.TheVariants as kinds
 use Rattle.gr_text.specs.Spelling.{keyword_bytes}
 use Rattle.gr_syntax.specs.Names.{is_letter, is_digit, is_word}
-use Rattle.gr_text.specs.Text.{Text, HasHead, IsLongest, is_white, blank_len, not_newline}
+use Rattle.gr_text.specs.Text.{Text, IsLongest, is_white, blank_len, not_newline}
+use Rattle.gr_text.specs.FrontWords.{HasHead}
 use Rattle.gr_text.proofs.Longest.{number_front, keyword_front, name_front}
 use Rattle.gr_text.proofs.Runs.{all_pass}
 

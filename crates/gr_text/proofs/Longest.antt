@@ -11,9 +11,10 @@ use Rattle.gr_text.specs.declared.token.Sign.{Sign}
 use Rattle.gr_text.specs.declared.token.TokenKind.{TokenKind}
 use Rattle.gr_text.specs.declared.token.TokenKind.TheVariants as kinds
 use Rattle.gr_text.specs.Spelling.{keyword_bytes, sign_bytes}
-use Rattle.gr_syntax.specs.Names.{is_letter, is_digit, is_word, most_name}
-use Rattle.gr_text.specs.Text.{Text, HasHead, IsLongest, IsToken, BeginsNoToken, is_white, blank_len, not_newline}
-use Rattle.gr_text.specs.Front.{front_sign}
+use Rattle.gr_syntax.specs.declared.limits.TheConstants.{MAX_NAME}
+use Rattle.gr_syntax.specs.Names.{is_letter, is_digit, is_word}
+use Rattle.gr_text.specs.Text.{Text, IsLongest, IsToken, BeginsNoToken, is_white, blank_len, not_newline}
+use Rattle.gr_text.specs.FrontWords.{HasHead, front_sign}
 use Rattle.gr_text.proofs.Runs.{and_first, and_both, all_pass, run_more, most}
 use Rattle.gr_text.proofs.Signs.{sign_head, some_sign, same_sign, sign_longest, no_sign}
 use Rattle.gr_text.proofs.Words.{keyword_head, keyword_letters, keyword_short, same_keyword}
@@ -58,7 +59,7 @@ headed (kinds.Sign s) b bytes t =
     other_class b (ap is_letter same ∙ (sign_head s).letter) (ap is_digit same ∙ (sign_head s).digit)
 headed kinds.End b bytes t = absurd t
 
-letter_word : (b : ℕ) → is_letter b ≡ true → is_word b ≡ true
+pub letter_word : (b : ℕ) → is_letter b ≡ true → is_word b ≡ true
 letter_word b h = ap (λ (v : Bool). v || is_digit b) h
 
 word_token : (k : TokenKind) (b : ℕ) (bytes : Text) → is_letter b ≡ true → IsToken k (b ∷ bytes) → list_all is_word (b ∷ bytes) ≡ true
@@ -194,7 +195,7 @@ name_front (b ∷ z) l h = word_longest b z l kinds.Name (subst (λ (n : ℕ). I
     one : prefix_len is_word (b ∷ z) ≡ suc (prefix_len is_word z)
     one = run_more is_word b z (letter_word b l)
 
-pub long_front : (text : Text) → HasHead (λ b. is_letter b ≡ true) text → most_name < prefix_len is_word text → IsLongest kinds.Name (prefix_len is_word text) text
+pub long_front : (text : Text) → HasHead (λ b. is_letter b ≡ true) text → MAX_NAME < prefix_len is_word text → IsLongest kinds.Name (prefix_len is_word text) text
 long_front text l h = name_front text l (λ k e. let size : length (take (prefix_len is_word text) text) ≡ length (keyword_bytes k) = ap length e in let short = keyword_short k in let all = prefix_len-le-length is_word text in omega (arith, length-take (prefix_len is_word text) text))
 
 -- ---- numbers

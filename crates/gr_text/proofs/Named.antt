@@ -5,17 +5,14 @@ use Rattle.std.specs.List.{list_all}
 use Rattle.std.specs.Str.{bytes_eq}
 use Rattle.std.proofs.lemmas.Bool.Decides.{nat_tests}
 use Rattle.std.proofs.lemmas.Slice.Eq.{bytes_eq-Decides}
-use Rattle.gr_syntax.specs.Names.{has, is_letter, is_name, is_spelled, is_word, keywords, most_name}
+use Rattle.gr_syntax.specs.declared.limits.TheConstants.{MAX_NAME}
+use Rattle.gr_syntax.specs.Names.{has, is_letter, is_name, is_spelled, is_word, keywords}
 use Rattle.gr_text.specs.declared.token.Keyword.{Keyword}
-use Rattle.gr_text.specs.declared.token.Keyword.TheVariants.{Array, Set, Map, Vector, Heap, Input, Show, Task, Let, If, Else, While, Print, Spawn, At, Offer, Finish, Forall, Grain}
 use Rattle.gr_text.specs.declared.token.TokenKind.TheVariants as kind
 use Rattle.gr_text.specs.Spelling.{keyword_bytes}
 use Rattle.gr_text.specs.Text.{Text, IsToken, Fits}
 use Rattle.gr_text.proofs.Runs.{and_first, and_second}
-
--- All keywords, in the order of their list.
-abbrev all_keywords : List Keyword
-all_keywords = Array ∷ Set ∷ Map ∷ Vector ∷ Heap ∷ Input ∷ Show ∷ Task ∷ Let ∷ If ∷ Else ∷ While ∷ Print ∷ Spawn ∷ At ∷ Offer ∷ Finish ∷ Forall ∷ Grain ∷ []
+use Rattle.gr_text.proofs.Words.{all, holds}
 
 -- What is none of these keywords isn't in the list of their texts.
 none_of : (ks : List Keyword) (bytes : Text) → ((word : Keyword) → bytes ≢ keyword_bytes word) → has (map keyword_bytes ks) bytes ≡ false
@@ -27,31 +24,13 @@ none_of (k ∷ ks) bytes differs = by (none_of ks bytes differs) (bytes_eq bytes
     by rest false e = rw e rest
 
 is_one : (k : Keyword) → has keywords (keyword_bytes k) ≡ true
-is_one Array = refl
-is_one Set = refl
-is_one Map = refl
-is_one Vector = refl
-is_one Heap = refl
-is_one Input = refl
-is_one Show = refl
-is_one Task = refl
-is_one Let = refl
-is_one If = refl
-is_one Else = refl
-is_one While = refl
-is_one Print = refl
-is_one Spawn = refl
-is_one At = refl
-is_one Offer = refl
-is_one Finish = refl
-is_one Forall = refl
-is_one Grain = refl
+is_one = holds (λ k. has keywords (keyword_bytes k)) refl
 
 pub named_token : (bytes : Text) → IsToken kind.Name bytes → Fits kind.Name (length bytes) → is_name bytes ≡ true
 named_token [] token fits = absurd token
 named_token (b ∷ bytes) token fits =
-    let other : has keywords (b ∷ bytes) ≡ false = none_of all_keywords (b ∷ bytes) token.2 in
-    let short : nat_le (length (b ∷ bytes)) most_name ≡ true = grind (arith, nat_tests) in
+    let other : has keywords (b ∷ bytes) ≡ false = none_of all (b ∷ bytes) token.2 in
+    let short : nat_le (length (b ∷ bytes)) MAX_NAME ≡ true = grind (arith, nat_tests) in
     rw (token.0, token.1, short, other) refl
 
 parts : (x y z : Bool) → x && y && not z ≡ true → (x ≡ true) × (y ≡ true) × (z ≡ false)
@@ -63,7 +42,7 @@ parts false y z is = absurd cc
 pub token_named : (bytes : Text) → is_name bytes ≡ true → IsToken kind.Name bytes
 token_named [] is = absurd cc
 token_named (b ∷ bytes) is =
-    let p = parts (is_spelled (b ∷ bytes)) (nat_le (length (b ∷ bytes)) most_name) (has keywords (b ∷ bytes)) is in
+    let p = parts (is_spelled (b ∷ bytes)) (nat_le (length (b ∷ bytes)) MAX_NAME) (has keywords (b ∷ bytes)) is in
     (and_first (is_letter b) (list_all is_word bytes) p.0, and_second (is_letter b) (list_all is_word bytes) p.0, λ word e. apart word e p.2)
   where
     apart : (word : Keyword) → b ∷ bytes ≡ keyword_bytes word → has keywords (b ∷ bytes) ≡ false → ⊥
@@ -71,6 +50,6 @@ token_named (b ∷ bytes) is =
 
 pub fits_named : (bytes : Text) → is_name bytes ≡ true → Fits kind.Name (length bytes)
 fits_named bytes is =
-    let p = parts (is_spelled bytes) (nat_le (length bytes) most_name) (has keywords bytes) is in
-    let short : nat_le (length bytes) most_name ≡ true = p.1 in
+    let p = parts (is_spelled bytes) (nat_le (length bytes) MAX_NAME) (has keywords bytes) is in
+    let short : nat_le (length bytes) MAX_NAME ≡ true = p.1 in
     grind (arith, nat_tests)

@@ -8,7 +8,7 @@ use Rattle.gr_text.specs.declared.front.Front.TheVariants as fronts
 use Rattle.gr_text.specs.declared.token.Token.{Token}
 use Rattle.gr_text.specs.declared.token.TokenKind.{TokenKind}
 use Rattle.gr_text.specs.declared.token.TokenKind.TheVariants as kinds
-use Rattle.gr_text.specs.Front.{IsFront}
+use Rattle.gr_text.specs.FrontWords.{IsFront}
 use Rattle.gr_text.specs.Places.{place_of, after_bytes, after_byte, first_place}
 use Rattle.gr_text.specs.Text.{Text, Outcome, ReadsFrom, with_front, token_at}
 use Rattle.gr_text.proofs.Found.{blank_fits}

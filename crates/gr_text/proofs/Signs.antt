@@ -1,5 +1,5 @@
 -- Facts of each sign.
-use Rattle.std.proofs.Common.{◌≡◌, ℕ, zero, suc, ◌<◌, ◌≤◌, Bool, true, false, cond, [], ◌∷◌, length, get_or, take, Option, Some, None, refl, sym, ap, ◌∙◌, arith, inl, inr, lit<}
+use Rattle.std.proofs.Common.{◌≡◌, ℕ, zero, suc, ◌<◌, ◌≤◌, Bool, true, false, cond, [], ◌∷◌, length, get_or, take, Option, Some, None, refl, sym, ap, ◌∙◌, arith, inl, inr}
 use Rattle.std.specs.Prelude.{◌⊎◌, ◌==◌, ◌&&◌, if◌then◌else◌}
 use Rattle.std.proofs.lemmas.List.{length-take}
 use Rattle.std.proofs.lemmas.Bool.{eqb-true}
@@ -7,7 +7,7 @@ use Rattle.gr_text.proofs.Runs.{and_first, and_second}
 use Rattle.gr_text.specs.declared.token.Sign.{Sign}
 use Rattle.gr_text.specs.declared.token.Sign.TheVariants.{LeftParen, RightParen, LeftBrace, RightBrace, LeftBracket, RightBracket, Semicolon, Comma, Dot, DotDot, Assign, EqualEqual, BangEqual, Less, LessEqual, Greater, GreaterEqual, Plus, Minus, Star, Slash, Percent, Ampersand, Bar, Caret, Bang}
 use Rattle.gr_text.specs.Spelling.{sign_bytes}
-use Rattle.gr_text.specs.Front.{single_sign, double_sign, front_sign, or_else}
+use Rattle.gr_text.specs.FrontWords.{single_sign, double_sign, front_sign, or_else}
 use Rattle.gr_syntax.specs.Names.{is_letter, is_digit}
 use Rattle.gr_text.specs.Text.{Text, is_white}
 
@@ -95,32 +95,11 @@ sign_head Caret = record { letter = refl; digit = refl; white = refl; hash = ref
 sign_head Bang = record { letter = refl; digit = refl; white = refl; hash = refl }
 
 pub some_sign : (s : Sign) → 0 < length (sign_bytes s)
-some_sign LeftParen = lit< tt
-some_sign RightParen = lit< tt
-some_sign LeftBrace = lit< tt
-some_sign RightBrace = lit< tt
-some_sign LeftBracket = lit< tt
-some_sign RightBracket = lit< tt
-some_sign Semicolon = lit< tt
-some_sign Comma = lit< tt
-some_sign Dot = lit< tt
-some_sign DotDot = lit< tt
-some_sign Assign = lit< tt
-some_sign EqualEqual = lit< tt
-some_sign BangEqual = lit< tt
-some_sign Less = lit< tt
-some_sign LessEqual = lit< tt
-some_sign Greater = lit< tt
-some_sign GreaterEqual = lit< tt
-some_sign Plus = lit< tt
-some_sign Minus = lit< tt
-some_sign Star = lit< tt
-some_sign Slash = lit< tt
-some_sign Percent = lit< tt
-some_sign Ampersand = lit< tt
-some_sign Bar = lit< tt
-some_sign Caret = lit< tt
-some_sign Bang = lit< tt
+some_sign s = by (shape s)
+  where
+    by : OfOne s ⊎ OfTwo s → 0 < length (sign_bytes s)
+    by (inl x) = omega (arith, ap length x.bytes)
+    by (inr x) = omega (arith, ap length x.bytes)
 
 pub same_sign : (s r : Sign) → sign_bytes s ≡ sign_bytes r → s ≡ r
 same_sign s r e = same_shape (shape s) (shape r)

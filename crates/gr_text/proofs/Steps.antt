@@ -5,8 +5,8 @@ use Rattle.gr_text.specs.declared.front.Front.{Front}
 use Rattle.gr_text.specs.declared.front.Front.TheVariants as fronts
 use Rattle.gr_text.specs.declared.token.TokenKind.{TokenKind}
 use Rattle.gr_text.specs.declared.token.TokenKind.TheVariants as kinds
-use Rattle.gr_text.specs.Front.{IsFront}
-use Rattle.gr_syntax.specs.Names.{most_name}
+use Rattle.gr_text.specs.FrontWords.{IsFront}
+use Rattle.gr_syntax.specs.declared.limits.TheConstants.{MAX_NAME}
 use Rattle.gr_text.specs.Text.{Text, Outcome, ReadsFrom, IsLongest, Fits, with_front, token_at, blank_len}
 use Rattle.gr_text.proofs.Longest.{same_longest, not_blank}
 
@@ -39,7 +39,7 @@ forward fronts.Bad whole at text r f h = subst (λ (x : Outcome). ReadsFrom whol
 wide_not : (kind : TokenKind) (len n : ℕ) → Fits kind len → kind ≡ kinds.Number n → 2 ^ 64 ≤ n → ⊥
 wide_not kind len n fits e wide = let k : Fits (kinds.Number n) len = subst (λ (x : TokenKind). Fits x len) e fits in omega arith
 
-long_not : (kind : TokenKind) (len other : ℕ) → Fits kind len → kind ≡ kinds.Name → len ≡ other → most_name < other → ⊥
+long_not : (kind : TokenKind) (len other : ℕ) → Fits kind len → kind ≡ kinds.Name → len ≡ other → MAX_NAME < other → ⊥
 long_not kind len other fits e same long = let k : Fits kinds.Name len = subst (λ (x : TokenKind). Fits x len) e fits in omega arith
 
 name_not : (n : ℕ) → kinds.Name ≡ kinds.Number n → ⊥
@@ -57,7 +57,7 @@ backward_blank len whole at text r f (ReadsFrom.bad some dark none) = absurd (om
 pub data ByToken (whole : Text) (kind : TokenKind) (at len : ℕ) (text : Text) : Outcome → Type 0 where
   of_fit : {r : Outcome} → Fits kind len → Then whole kind at len text r → ByToken whole kind at len text r
   of_wide : (n : ℕ) → kind ≡ kinds.Number n → 2 ^ 64 ≤ n → ByToken whole kind at len text (Err (faults.NumberTooWide at))
-  of_long : kind ≡ kinds.Name → most_name < len → ByToken whole kind at len text (Err (faults.NameTooLong at))
+  of_long : kind ≡ kinds.Name → MAX_NAME < len → ByToken whole kind at len text (Err (faults.NameTooLong at))
 
 by_token : (kind : TokenKind) (len : ℕ) (whole : Text) (at : ℕ) (text : Text) (r : Outcome) → IsLongest kind len text → 0 < length text → ReadsFrom whole at text r → ByToken whole kind at len text r
 by_token kind len whole at [] r f some ReadsFrom.ends = absurd (omega arith)
@@ -72,7 +72,7 @@ by_token kind len whole at text _ f some (ReadsFrom.token {len = l} {kind = k} {
 by_token kind len whole at text _ f some (ReadsFrom.too_wide {n = n} {len = l} t above) = ByToken.of_wide n (sym (same_longest (kinds.Number n) kind l len text t f).kind) above
 by_token kind len whole at text _ f some (ReadsFrom.too_long {len = l} t over) =
     let same = same_longest kinds.Name kind l len text t f in
-    ByToken.of_long (sym same.kind) (subst (λ (n : ℕ). most_name < n) same.len over)
+    ByToken.of_long (sym same.kind) (subst (λ (n : ℕ). MAX_NAME < n) same.len over)
 by_token kind len whole at text _ f some (ReadsFrom.bad more dark none) = absurd (none kind len f.within f.token)
 
 backward_token : (kind : TokenKind) (len : ℕ) (whole : Text) (at : ℕ) (text : Text) (r : Outcome) → Fits kind len → ByToken whole kind at len text r → Then whole kind at len text r
@@ -85,7 +85,7 @@ backward_wide n len whole at text r wide (ByToken.of_fit fits h) = absurd (omega
 backward_wide n len whole at text _ wide (ByToken.of_wide m e more) = refl
 backward_wide n len whole at text _ wide (ByToken.of_long e long) = absurd (name_not n (sym e))
 
-backward_long : (len : ℕ) (whole : Text) (at : ℕ) (text : Text) (r : Outcome) → most_name < len → ByToken whole kinds.Name at len text r → r ≡ Err (faults.NameTooLong at)
+backward_long : (len : ℕ) (whole : Text) (at : ℕ) (text : Text) (r : Outcome) → MAX_NAME < len → ByToken whole kinds.Name at len text r → r ≡ Err (faults.NameTooLong at)
 backward_long len whole at text r long (ByToken.of_fit fits h) = absurd (omega arith)
 backward_long len whole at text _ long (ByToken.of_wide n e wide) = absurd (name_not n e)
 backward_long len whole at text _ long (ByToken.of_long e more) = refl

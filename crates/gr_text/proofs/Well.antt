@@ -1,16 +1,16 @@
 -- What the tokens of a text are, by how the text reads.
-use Rattle.std.proofs.Common.{◌≡◌, ◌≢◌, ℕ, zero, suc, ◌+◌, ◌-◌, ◌≤◌, ◌<◌, Bool, true, List, [], ◌∷◌, ◌++◌, length, get_or, take, drop, Ok, Err, refl, sym, ap, subst, ◌∙◌, arith}
-use Rattle.std.specs.Prelude.{All, slice_range, ◌||◌, IsAscii}
+use Rattle.std.proofs.Common.{◌≡◌, ◌≢◌, ℕ, zero, suc, ◌+◌, ◌-◌, ◌≤◌, ◌<◌, true, List, [], ◌∷◌, ◌++◌, length, get_or, take, drop, Ok, Err, refl, sym, ap, subst, ◌∙◌, arith}
+use Rattle.std.specs.Prelude.{All, slice_range, IsAscii}
 use Rattle.std.proofs.lemmas.List.{length-drop, drop-drop}
 use Rattle.std.proofs.lemmas.Str.Ascii.{IsAscii-from_reads}
 use Rattle.gr_text.specs.declared.token.Token.{Token}
 use Rattle.gr_text.specs.declared.token.TokenKind.{TokenKind}
 use Rattle.gr_text.specs.declared.token.TokenKind.TheVariants as kinds
 use Rattle.std.specs.List.{list_all}
-use Rattle.gr_syntax.specs.Names.{is_letter, is_digit, is_word}
+use Rattle.gr_syntax.specs.Names.{is_word}
 use Rattle.gr_text.specs.Text.{Text, Outcome, ReadsFrom, IsToken, IsTokenOf, IsLongest, Fits, AreTokens, IsRising, with_front, token_at, blank_len}
 use Rattle.gr_text.proofs.Found.{blank_fits}
-use Rattle.gr_text.proofs.Longest.{some_token}
+use Rattle.gr_text.proofs.Longest.{letter_word, some_token}
 use Rattle.gr_text.proofs.Runs.{and_both, all_at}
 
 -- ---- names are ASCII
@@ -18,12 +18,9 @@ use Rattle.gr_text.proofs.Runs.{and_both, all_at}
 word_ascii : (b : ℕ) → is_word b ≡ true → b < 128
 word_ascii b h = grind arith
 
-letter_ascii : (b : ℕ) → is_letter b ≡ true → is_word b ≡ true
-letter_ascii b h = ap (λ (v : Bool). v || is_digit b) h
-
 name_ascii : (bytes : Text) → IsToken kinds.Name bytes → IsAscii bytes
 name_ascii [] t = absurd t
-name_ascii (b ∷ bytes) t = IsAscii-from_reads (b ∷ bytes) (length (b ∷ bytes)) (omega arith) (λ k less. word_ascii (get_or (b ∷ bytes) k 0) (all_at is_word (b ∷ bytes) k (and_both (is_word b) (list_all is_word bytes) (letter_ascii b t.0) t.1) less))
+name_ascii (b ∷ bytes) t = IsAscii-from_reads (b ∷ bytes) (length (b ∷ bytes)) (omega arith) (λ k less. word_ascii (get_or (b ∷ bytes) k 0) (all_at is_word (b ∷ bytes) k (and_both (is_word b) (list_all is_word bytes) (letter_word b t.0) t.1) less))
 
 -- ---- the tokens from a place on
 

@@ -1,5 +1,5 @@
 -- Facts of each keyword.
-use Rattle.std.proofs.Common.{◌≡◌, ◌≢◌, ℕ, ◌+◌, ◌<◌, ◌≤◌, ◌*◌, Bool, true, false, List, [], ◌∷◌, length, get_or, Option, Some, None, zero, suc, inl, inr, refl, sym, ap, ◌∙◌, arith, lit≤, lit<}
+use Rattle.std.proofs.Common.{◌≡◌, ◌≢◌, ℕ, ◌+◌, ◌<◌, ◌≤◌, ◌*◌, Bool, true, false, List, [], ◌∷◌, length, nat_le, get_or, Option, Some, None, zero, suc, inl, inr, refl, sym, ap, ◌∙◌, arith, lit<}
 use Rattle.std.specs.Prelude.{◌⊎◌, ◌==◌, if◌then◌else◌}
 use Rattle.std.specs.Str.{bytes_eq}
 use Rattle.std.proofs.lemmas.Slice.Eq.{bytes_eq-Decides}
@@ -7,7 +7,10 @@ use Rattle.gr_text.specs.declared.token.Keyword.{Keyword}
 use Rattle.gr_text.specs.declared.token.Keyword.TheVariants.{Array, Set, Map, Vector, Heap, Input, Show, Task, Let, If, Else, While, Print, Spawn, At, Offer, Finish, Forall, Grain}
 use Rattle.gr_text.specs.Spelling.{keyword_bytes}
 use Rattle.std.specs.List.{list_all}
-use Rattle.gr_syntax.specs.Names.{is_letter, is_word, most_name}
+use Rattle.std.proofs.lemmas.Bool.{leb-true}
+use Rattle.std.proofs.lemmas.List.Folds.{list_all_at}
+use Rattle.gr_syntax.specs.declared.limits.TheConstants.{MAX_NAME}
+use Rattle.gr_syntax.specs.Names.{is_letter, is_word}
 use Rattle.gr_text.specs.Text.{Text}
 
 -- The place of a keyword in the list of all.
@@ -31,6 +34,10 @@ rank Offer = 15
 rank Finish = 16
 rank Forall = 17
 rank Grain = 18
+
+-- All keywords, each at its rank.
+abbrev pub all : List Keyword
+all = Array ∷ Set ∷ Map ∷ Vector ∷ Heap ∷ Input ∷ Show ∷ Task ∷ Let ∷ If ∷ Else ∷ While ∷ Print ∷ Spawn ∷ At ∷ Offer ∷ Finish ∷ Forall ∷ Grain ∷ []
 
 -- The bytes as one number, which tells the keywords apart.
 abbrev packed : Text → ℕ
@@ -66,70 +73,7 @@ same_keyword j k e =
     let both : Some j ≡ Some k = sym (unpacks j) ∙ ap (λ (bytes : Text). unpacked (packed bytes)) e ∙ unpacks k in
     cc
 
-pub keyword_short : (k : Keyword) → length (keyword_bytes k) ≤ most_name
-keyword_short Array = lit≤ tt
-keyword_short Set = lit≤ tt
-keyword_short Map = lit≤ tt
-keyword_short Vector = lit≤ tt
-keyword_short Heap = lit≤ tt
-keyword_short Input = lit≤ tt
-keyword_short Show = lit≤ tt
-keyword_short Task = lit≤ tt
-keyword_short Let = lit≤ tt
-keyword_short If = lit≤ tt
-keyword_short Else = lit≤ tt
-keyword_short While = lit≤ tt
-keyword_short Print = lit≤ tt
-keyword_short Spawn = lit≤ tt
-keyword_short At = lit≤ tt
-keyword_short Offer = lit≤ tt
-keyword_short Finish = lit≤ tt
-keyword_short Forall = lit≤ tt
-keyword_short Grain = lit≤ tt
-
-pub keyword_letters : (k : Keyword) → list_all is_word (keyword_bytes k) ≡ true
-keyword_letters Array = refl
-keyword_letters Set = refl
-keyword_letters Map = refl
-keyword_letters Vector = refl
-keyword_letters Heap = refl
-keyword_letters Input = refl
-keyword_letters Show = refl
-keyword_letters Task = refl
-keyword_letters Let = refl
-keyword_letters If = refl
-keyword_letters Else = refl
-keyword_letters While = refl
-keyword_letters Print = refl
-keyword_letters Spawn = refl
-keyword_letters At = refl
-keyword_letters Offer = refl
-keyword_letters Finish = refl
-keyword_letters Forall = refl
-keyword_letters Grain = refl
-
-pub keyword_head : (k : Keyword) → is_letter (get_or (keyword_bytes k) 0 0) ≡ true
-keyword_head Array = refl
-keyword_head Set = refl
-keyword_head Map = refl
-keyword_head Vector = refl
-keyword_head Heap = refl
-keyword_head Input = refl
-keyword_head Show = refl
-keyword_head Task = refl
-keyword_head Let = refl
-keyword_head If = refl
-keyword_head Else = refl
-keyword_head While = refl
-keyword_head Print = refl
-keyword_head Spawn = refl
-keyword_head At = refl
-keyword_head Offer = refl
-keyword_head Finish = refl
-keyword_head Forall = refl
-keyword_head Grain = refl
-
-pub rank_less : (k : Keyword) → rank k < 19
+pub rank_less : (k : Keyword) → rank k < length all
 rank_less Array = lit< tt
 rank_less Set = lit< tt
 rank_less Map = lit< tt
@@ -149,9 +93,6 @@ rank_less Offer = lit< tt
 rank_less Finish = lit< tt
 rank_less Forall = lit< tt
 rank_less Grain = lit< tt
-
-abbrev pub all : List Keyword
-all = Array ∷ Set ∷ Map ∷ Vector ∷ Heap ∷ Input ∷ Show ∷ Task ∷ Let ∷ If ∷ Else ∷ While ∷ Print ∷ Spawn ∷ At ∷ Offer ∷ Finish ∷ Forall ∷ Grain ∷ []
 
 pub at_rank : (k d : Keyword) → get_or all (rank k) d ≡ k
 at_rank Array d = refl
@@ -173,6 +114,23 @@ at_rank Offer d = refl
 at_rank Finish d = refl
 at_rank Forall d = refl
 at_rank Grain d = refl
+
+-- What holds of all keywords holds of each.
+pub holds : (test : Keyword → Bool) → list_all test all ≡ true → (k : Keyword) → test k ≡ true
+holds test h k = by (test k) refl
+  where
+    by : (v : Bool) → test k ≡ v → test k ≡ true
+    by true e = e
+    by false e = let none : list_all test all ≡ false = list_all_at test all (rank k) Array (rank_less k) (ap test (at_rank k Array) ∙ e) in absurd cc
+
+pub keyword_short : (k : Keyword) → length (keyword_bytes k) ≤ MAX_NAME
+keyword_short k = leb-true (length (keyword_bytes k)) MAX_NAME (holds (λ k. nat_le (length (keyword_bytes k)) MAX_NAME) refl k)
+
+pub keyword_letters : (k : Keyword) → list_all is_word (keyword_bytes k) ≡ true
+keyword_letters = holds (λ k. list_all is_word (keyword_bytes k)) refl
+
+pub keyword_head : (k : Keyword) → is_letter (get_or (keyword_bytes k) 0 0) ≡ true
+keyword_head = holds (λ k. is_letter (get_or (keyword_bytes k) 0 0)) refl
 
 -- A word that is written as none of the first keywords, nor as the one at this rank.
 pub no_more : (word written : Text) (i : ℕ) (d : Keyword) → ((k : Keyword) → rank k < i → word ≢ keyword_bytes k) → written ≡ keyword_bytes (get_or all i d) → word ≢ written → (k : Keyword) → rank k < i + 1 → word ≢ keyword_bytes k

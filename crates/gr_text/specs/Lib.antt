@@ -1,4 +1,5 @@
-pub mod Front
-pub mod Places
 pub mod Spelling
+pub mod Places
 pub mod Text
+-- For proofs and private functions.
+pub mod FrontWords

@@ -6,12 +6,12 @@ abbrev pub first_place : Place
 first_place = record { line = 1; column = 1 }
 
 abbrev pub after_byte : Place → ℕ → Place
-after_byte p b = if b == 10 then record { line = p.line + 1; column = 1 } else record { line = p.line; column = p.column + 1 }
+after_byte place byte = if byte == 10 then record { line = place.line + 1; column = 1 } else record { line = place.line; column = place.column + 1 }
 
 -- The place after these bytes.
 abbrev pub after_bytes : Place → List ℕ → Place
-after_bytes p [] = p
-after_bytes p (b ∷ bs) = after_bytes (after_byte p b) bs
+after_bytes place [] = place
+after_bytes place (byte ∷ bytes) = after_bytes (after_byte place byte) bytes
 
 abbrev pub place_of : List ℕ → ℕ → Place
 place_of text at = after_bytes first_place (take at text)

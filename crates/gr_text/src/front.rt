@@ -4,14 +4,12 @@ ghost use Rattle.std.specs.List.{list_all, prefix_len};
 ghost use Rattle.std.specs.Char.{digit_value};
 ghost use Rattle.std.specs.Str.Parse.{digits_value};
 ghost use Rattle.gr_syntax.specs.Names.{is_word, is_digit, is_letter};
-ghost use Rattle.gr_text.specs.Text.{is_white, not_newline, blank_len, HasHead};
-ghost use Rattle.gr_text.specs.Front.{IsFront, single_sign, double_sign, front_sign};
+ghost use Rattle.gr_text.specs.Text.{is_white, not_newline, blank_len};
+ghost use Rattle.gr_text.specs.FrontWords.{HasHead, IsFront, single_sign, double_sign, front_sign};
 
 use crate::spelling::keyword;
 use crate::token::{Sign, TokenKind};
-
-/// The most bytes of a name.
-const MOST_NAME: usize = 32;
+use gr_syntax::MAX_NAME;
 
 /// What stands at the front of a text that isn't empty.
 #[derive(Clone, Copy, Debug, PartialEq, Eq)]
@@ -201,7 +199,7 @@ fn word(text: &[u8]) -> Front
     ensures { IsFront result text.now }
 {
     let length = word_len(text);
-    if length > MOST_NAME {
+    if length > MAX_NAME {
         return Front::TooLong;
     }
     match keyword(upto(text, length)) {

@@ -12,10 +12,11 @@ use std::alloc::Global;
 
 /// The tokens of a text, the last of which is its end, or its first fault.
 pub fn tokens(alloc: Global, text: &[u8]) -> Result<Tokens, TextError>
-    ensures reads { IfOk result (λ ts. Reads text.now (Ok ts)) }
-    ensures fault { IfErr result (λ e. IsFaultOf text.now e) }
-    ensures only { (r : Outcome) → Reads text.now r → MatchResult result (λ ts. r ≡ Ok ts) (λ e. (e ≡ faults.OutOfMemory) ⊎ (r ≡ Err e)) }
-    ensures well { IfOk result (λ ts. AreTokens text.now ts) }
+    ensures reads { IfOk result (λ found. Reads text.now (Ok found)) }
+    ensures fault { IfErr result (λ error. IsFaultOf text.now error) }
+    ensures only { (outcome : Outcome) → Reads text.now outcome → MatchResult result
+        (λ found. outcome ≡ Ok found) (λ e. (e ≡ faults.OutOfMemory) ⊎ (outcome ≡ Err e)) }
+    ensures well { IfOk result (λ found. AreTokens text.now found) }
 {
     let mut found = Tokens::new(alloc);
     let mut at: u64 = 0;

@@ -3,14 +3,14 @@
 
 mod fault;
 mod front;
-pub mod laws;
+mod laws;
 mod lexing;
 mod placing;
 mod spelling;
-#[cfg(test)]
-mod tests;
-pub mod token;
+mod token;
 
 pub use fault::TextError;
+pub use laws::names_are_names;
 pub use lexing::tokens;
 pub use placing::place;
+pub use token::{Keyword, Sign, Token, TokenKind, Tokens};

@@ -13,13 +13,14 @@ use Rattle.gr_lang.specs.declared.action.Op.{Op}
 use Rattle.gr_lang.specs.declared.action.Reply.{Reply}
 use Rattle.gr_lang.specs.declared.action.TrapKind.{TrapKind}
 use Rattle.gr_lang.specs.declared.action.TrapKind.TheVariants as trap
-use Rattle.gr_lang.specs.Fields.{fields_of, same_reply, same_trap}
+use Rattle.gr_lang.specs.Fields.{same_reply, same_trap}
+use Rattle.gr_lang.proofs.Operations.{op_same}
 use Rattle.gr_lang.specs.Objects.{call}
 use Rattle.gr_lang.specs.Next.{next, go_on}
 use Rattle.gr_lang.specs.States.{State, Task, going, ended, trapped, main_id, left}
 use Rattle.gr_lang.specs.Steps.{step, called, goes_on, set_task}
 use Rattle.gr_lang.proofs.TaskIds.{by_ids, put_twice}
-use Rattle.gr_top.specs.Alone.{Does, DoesIn, IsAlone, task_left, work_left}
+use Rattle.gr_top.specs.AloneWords.{Does, DoesIn, IsAlone, task_left, work_left}
 use Rattle.gr_top.proofs.Tasks.{StandsStraight, GoesStraight, next_straight, go_on_straight}
 
 -- main is the task that is found.
@@ -33,8 +34,6 @@ left_of_main S t h = ap (λ o. option_map_or task_left o 0) (found_main S t h)
 tasks_after : (S : State) (t u : Task) → IsAlone S t → fin.insert S.tasks main_id u ≡ fin.insert fin.empty main_id u
 tasks_after S t u h = rw h.tasks (put_twice fin.empty main_id t u)
 
-same_bytes : (xs : List ℕ) → bytes_eq xs xs ≡ true
-same_bytes xs = (bytes_eq-Decides xs xs).1 refl
 
 same_number : (n : ℕ) → (n == n) ≡ true
 same_number n = search rules
@@ -65,7 +64,7 @@ call_advances p N L S t op h m act =
     let here : work_left S ≡ length t.running.todo + 1 = left_of_main S t h ∙ ap (λ x. task_left (record t { mode = x })) m in
     record {
       after = called p L S main_id t op w;
-      step = rw (found_main S t h) (rw m (rw act (rw (same_bytes (fields_of op)) (rw (same_words w) refl))));
+      step = rw (found_main S t h) (rw m (rw act (rw (op_same op) (rw (same_words w) refl))));
       alone = record { tasks = tasks_after S t (goes_on p L t w) h; scopes = h.scopes; unpassed = h.unpassed; straight = at.straight; does = at.does };
       less = omega (arith, here, on.shorter, at.shorter);
     }

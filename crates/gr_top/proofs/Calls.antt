@@ -20,7 +20,7 @@ use Rattle.gr_top.specs.Commands.{asked, is_on_text, is_replay, is_read, limit_o
 use Rattle.gr_top.specs.Due.{Reading, accepted, refused, Replayed, unread, bad_line, judged, Due, due_usage, due_too_long, due_read, due_refused, due_accepted, due_run, due_of_run, due_trapped, due_replayed, due_judged, told, followed, not_built, status_of, Came}
 use Rattle.gr_top.specs.Readings.{ReadsAs, ReplaysAs, IsDue, Answered, IsRunOf, IsWorldOf, Refusing}
 use Rattle.gr_top.specs.Texts.{usage_text, too_long_text, prints, first_trap}
-use Rattle.gr_top.specs.Views.{made}
+use Rattle.gr_top.specs.AnswerView.{made}
 use Rattle.gr_top.specs.declared.answer.Answer.{Answer}
 use Rattle.gr_top.specs.declared.answer.Refusal.{Refusal}
 use Rattle.gr_top.specs.declared.answer.Refusal.TheVariants as r
@@ -79,51 +79,24 @@ module _ (words : List (String Global)) (a : Answer) (before now : Option (List 
   unless h = (own (made a) before now refusal world came h).0
 
   module _ (lines_once : ReadsOnce) (judges_once : JudgedOnce) where
-    pub check_of : (bytes : List ℕ) (o : Options) (p : Program) → IsDue words bytes a.world (made a) → length bytes ≤ 2 ^ 20 → ReadsAs bytes (accepted p) → asked words ≡ Some o → o.command ≡ Check
+    pub check_of : (bytes : List ℕ) (o : Options) (p : Program) → IsDue words bytes a.world (made a) → length bytes ≤ limit_of o.command → ReadsAs bytes (accepted p) → asked words ≡ Some o → o.command ≡ Check
         → ((written : ℕ) → refusal ≢ r.WriteFault written) → status_of refusal ≡ 0
     check_of bytes o p h few reads some c n = ap status_of (unless n) ∙ due_check lines_once judges_once words bytes world (made a) o p (here bytes h) few reads some c
 
-    pub run_of : (bytes : List ℕ) (o : Options) (p : Program) → IsDue words bytes a.world (made a) → length bytes ≤ 2 ^ 20 → ReadsAs bytes (accepted p) → asked words ≡ Some o → o.command ≡ Run → is_run o p ≡ true
+    pub run_of : (bytes : List ℕ) (o : Options) (p : Program) → IsDue words bytes a.world (made a) → length bytes ≤ limit_of o.command → ReadsAs bytes (accepted p) → asked words ≡ Some o → o.command ≡ Run → is_run o p ≡ true
         → ((written : ℕ) → refusal ≢ r.WriteFault written) → (status_of refusal ≡ 0) ⊎ (status_of refusal ≡ 3)
     run_of bytes o p h few reads some c built n =
         subst (λ (x : Refusal). (status_of x ≡ 0) ⊎ (status_of x ≡ 3)) (sym (unless n)) (due_run_status lines_once judges_once words bytes world (made a) o p (here bytes h) few reads some c built)
 
-    pub replay_of : (bytes : List ℕ) (o : Options) (b : Bool) → IsDue words bytes a.world (made a) → length bytes ≤ 2 ^ 26
+    pub replay_of : (bytes : List ℕ) (o : Options) (b : Bool) → IsDue words bytes a.world (made a) → length bytes ≤ limit_of o.command
         → ReplaysAs (program_part bytes) (history_part bytes) (judged (verdict.legal b)) → asked words ≡ Some o → o.command ≡ Replay
         → ((written : ℕ) → refusal ≢ r.WriteFault written) → status_of refusal ≡ 0
     replay_of bytes o b h few found some c n = ap status_of (unless n) ∙ due_legal lines_once judges_once words bytes world (made a) o b (here bytes h) few found some c
 
-    pub refuse_of : (bytes : List ℕ) (o : Options) (f : Fault) → IsDue words bytes a.world (made a) → length bytes ≤ 2 ^ 20 → ReadsAs bytes (refused f) → asked words ≡ Some o → is_on_text o.command ≡ true
+    pub refuse_of : (bytes : List ℕ) (o : Options) (f : Fault) → IsDue words bytes a.world (made a) → length bytes ≤ limit_of o.command → ReadsAs bytes (refused f) → asked words ≡ Some o → is_on_text o.command ≡ true
         → ((written : ℕ) → refusal ≢ r.WriteFault written) → refusal ≡ r.Refused f.kind f.at.line f.at.column
     refuse_of bytes o f h few reads some on n = unless n ∙ ap (λ (d : Due). d.refusal) (due_refusal lines_once judges_once words bytes world (made a) o f (here bytes h) few reads some on)
 
 pub either_of : (status n : ℕ) → status ≡ n → (n ≡ 0) ⊎ (n ≡ 3) → (status ≡ 0) ⊎ ((status ≡ 3) ⊎ (status ≡ 6))
 either_of status n e (inl h) = inl (e ∙ h)
 either_of status n e (inr h) = inr (inl (e ∙ h))
-
--- The completeness clauses, for a source that may tell what it held.
-pub if_checks : (words : List (String Global)) (s : Option (List ℕ)) (Q R X : Type 0)
-    → ((bytes : List ℕ) → s ≡ Some bytes → (o : Options) (p : Program) → length bytes ≤ 2 ^ 20 → ReadsAs bytes (accepted p) → asked words ≡ Some o → o.command ≡ Check → Q → R → X)
-    → IfSome s (λ bytes. (o : Options) (p : Program) → length bytes ≤ 2 ^ 20 → ReadsAs bytes (accepted p) → asked words ≡ Some o → o.command ≡ Check → Q → R → X)
-if_checks words None Q R X h = tt
-if_checks words (Some bytes) Q R X h = h bytes refl
-
-pub if_runs : (words : List (String Global)) (s : Option (List ℕ)) (Q R X : Type 0)
-    → ((bytes : List ℕ) → s ≡ Some bytes → (o : Options) (p : Program) → length bytes ≤ 2 ^ 20 → ReadsAs bytes (accepted p) → asked words ≡ Some o → o.command ≡ Run → is_run o p ≡ true → Q → R → X)
-    → IfSome s (λ bytes. (o : Options) (p : Program) → length bytes ≤ 2 ^ 20 → ReadsAs bytes (accepted p) → asked words ≡ Some o → o.command ≡ Run → is_run o p ≡ true → Q → R → X)
-if_runs words None Q R X h = tt
-if_runs words (Some bytes) Q R X h = h bytes refl
-
-pub if_replays : (words : List (String Global)) (s : Option (List ℕ)) (Q R X : Type 0)
-    → ((bytes : List ℕ) → s ≡ Some bytes → (o : Options) (b : Bool) → length bytes ≤ 2 ^ 26 → ReplaysAs (program_part bytes) (history_part bytes) (judged (verdict.legal b)) → asked words ≡ Some o
-    → o.command ≡ Replay → Q → R → X)
-    → IfSome s (λ bytes. (o : Options) (b : Bool) → length bytes ≤ 2 ^ 26 → ReplaysAs (program_part bytes) (history_part bytes) (judged (verdict.legal b)) → asked words ≡ Some o
-    → o.command ≡ Replay → Q → R → X)
-if_replays words None Q R X h = tt
-if_replays words (Some bytes) Q R X h = h bytes refl
-
-pub if_refuses : (words : List (String Global)) (s : Option (List ℕ)) (Q R : Type 0) (X : Fault → Type 0)
-    → ((bytes : List ℕ) → s ≡ Some bytes → (o : Options) (f : Fault) → length bytes ≤ 2 ^ 20 → ReadsAs bytes (refused f) → asked words ≡ Some o → is_on_text o.command ≡ true → Q → R → X f)
-    → IfSome s (λ bytes. (o : Options) (f : Fault) → length bytes ≤ 2 ^ 20 → ReadsAs bytes (refused f) → asked words ≡ Some o → is_on_text o.command ≡ true → Q → R → X f)
-if_refuses words None Q R X h = tt
-if_refuses words (Some bytes) Q R X h = h bytes refl

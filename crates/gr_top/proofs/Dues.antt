@@ -20,7 +20,7 @@ use Rattle.gr_top.specs.Commands.{asked, is_on_text, is_replay, is_read, limit_o
 use Rattle.gr_top.specs.Due.{Reading, accepted, refused, Replayed, unread, bad_line, judged, Due, due_usage, due_too_long, due_read, due_refused, due_accepted, due_run, due_of_run, due_trapped, due_replayed, due_judged, told, followed, not_built, status_of, Came}
 use Rattle.gr_top.specs.Readings.{ReadsAs, ReplaysAs, IsDue, Answered, IsRunOf, IsWorldOf, Refusing}
 use Rattle.gr_top.specs.Texts.{usage_text, too_long_text, prints, first_trap}
-use Rattle.gr_top.specs.Views.{made}
+use Rattle.gr_top.specs.AnswerView.{made}
 use Rattle.gr_top.specs.declared.answer.Answer.{Answer}
 use Rattle.gr_top.specs.declared.answer.Refusal.{Refusal}
 use Rattle.gr_top.specs.declared.answer.Refusal.TheVariants as r
@@ -56,8 +56,8 @@ made_too_long words bytes a o some reads more x y z =
     subst (λ (d : Due). IsDue words bytes a.world d) (sym (is_made a due_too_long x y (ap is_some z))) (IsDue.too_long o some reads more)
 
 pub made_read : (words : List (String Global)) (bytes : List ℕ) (a : Answer) (o : Options) → asked words ≡ Some o → is_on_text o.command ≡ true → length bytes ≤ limit_of o.command
-    → ((reading : Reading) × ReadsAs bytes reading × (made a ≡ due_read o reading a.world)) → IsDue words bytes a.world (made a)
-made_read words bytes a o some on few h = subst (λ (d : Due). IsDue words bytes a.world d) (sym h.2) (IsDue.read o some on few h.1)
+    → ((reading : Reading) × ReadsAs bytes reading × (due_read o reading a.world ≡ Some (made a))) → IsDue words bytes a.world (made a)
+made_read words bytes a o some on few h = IsDue.read o some on few h.1 h.2
 
 pub made_replayed : (words : List (String Global)) (bytes : List ℕ) (a : Answer) (o : Options) → asked words ≡ Some o → is_replay o.command ≡ true → length bytes ≤ limit_of o.command
     → ((found : Replayed) × ReplaysAs (program_part bytes) (history_part bytes) found × (made a ≡ due_replayed found)) → IsDue words bytes a.world (made a)

@@ -20,7 +20,7 @@ use Rattle.gr_top.specs.Commands.{asked, is_on_text, is_replay, is_read, limit_o
 use Rattle.gr_top.specs.Due.{Reading, accepted, refused, Replayed, unread, bad_line, judged, Due, due_usage, due_too_long, due_read, due_refused, due_accepted, due_run, due_of_run, due_trapped, due_replayed, due_judged, told, followed, not_built, status_of, Came}
 use Rattle.gr_top.specs.Readings.{ReadsAs, ReplaysAs, IsDue, Answered, IsRunOf, IsWorldOf, Refusing}
 use Rattle.gr_top.specs.Texts.{usage_text, too_long_text, prints, first_trap}
-use Rattle.gr_top.specs.Views.{made}
+use Rattle.gr_top.specs.AnswerView.{made}
 use Rattle.gr_top.specs.declared.answer.Answer.{Answer}
 use Rattle.gr_top.specs.declared.answer.Refusal.{Refusal}
 use Rattle.gr_top.specs.declared.answer.Refusal.TheVariants as r
@@ -30,7 +30,10 @@ use Rattle.gr_hist.specs.Grammar.{ReadsOnce, ReadsText}
 use Rattle.gr_replay.specs.Laws.{JudgedOnce}
 use Rattle.std.proofs.Common.{Ok, Err}
 use Rattle.gr_top.proofs.Once.{once}
-use Rattle.gr_top.proofs.Told.{IsRunStatus, run_status}
+use Rattle.gr_top.specs.Due.{said}
+use Rattle.gr_top.specs.Texts.{accepted_text}
+use Rattle.gr_top.specs.declared.answer.Refusal.TheVariants.{Nothing}
+use Rattle.gr_top.proofs.Told.{IsRunStatus, run_status, told_of}
 
 same_options : (words : List (String Global)) (o q : Options) → asked words ≡ Some o → asked words ≡ Some q → o ≡ q
 same_options words o q x y = let k : Some o ≡ Some q = sym x ∙ y in cc
@@ -64,6 +67,11 @@ same_program text p q h k = let e : accepted p ≡ accepted q = once text (accep
 no_reading : (text : List ℕ) (p : Program) (f : Fault) → ReadsAs text (accepted p) → ReadsAs text (refused f) → ⊥
 no_reading text p f h k = let e : accepted p ≡ refused f = once text (accepted p) (refused f) h k in cc
 
+-- What is due of a reading is one for all options and readings of the same words and text.
+same_due : (words : List (String Global)) (bytes : List ℕ) (world : Option WorldEnd) (x y : Reading) (o q : Options) → asked words ≡ Some o → asked words ≡ Some q → ReadsAs bytes x → ReadsAs bytes y
+    → due_read o x world ≡ due_read q y world
+same_due words bytes world x y o q some also h k = ap (λ (z : Options). due_read z x world) (same_options words o q some also) ∙ ap (λ (z : Reading). due_read q z world) (once bytes x y h k)
+
 module _ (lines_once : ReadsOnce) (judges_once : JudgedOnce) where
   pub replays_once : (text history : List ℕ) (x y : Replayed) → ReplaysAs text history x → ReplaysAs text history y → x ≡ y
   replays_once text history _ _ (ReplaysAs.of_fault {f} h) (ReplaysAs.of_fault {f = g} k) = let e : refused f ≡ refused g = once text (refused f) (refused g) h k in let i : f ≡ g = cc in ap unread i
@@ -91,73 +99,74 @@ module _ (lines_once : ReadsOnce) (judges_once : JudgedOnce) where
   due_once words bytes world _ _ (IsDue.usage h) (IsDue.usage k) = refl
   due_once words bytes world _ _ (IsDue.usage h) (IsDue.bench o some none) = absurd (some_options words o some h)
   due_once words bytes world _ _ (IsDue.usage h) (IsDue.too_long o some reads more) = absurd (some_options words o some h)
-  due_once words bytes world _ _ (IsDue.usage h) (IsDue.read o some on few k) = absurd (some_options words o some h)
+  due_once words bytes world _ _ (IsDue.usage h) (IsDue.read o some on few k x) = absurd (some_options words o some h)
   due_once words bytes world _ _ (IsDue.usage h) (IsDue.replayed o some on few k) = absurd (some_options words o some h)
   due_once words bytes world _ _ (IsDue.bench o some none) (IsDue.usage k) = absurd (some_options words o some k)
   due_once words bytes world _ _ (IsDue.bench o some none) (IsDue.bench q also nor) = refl
   due_once words bytes world _ _ (IsDue.bench o some none) (IsDue.too_long q also reads more) = absurd (apart words q o is_read also some reads none)
-  due_once words bytes world _ _ (IsDue.bench o some none) (IsDue.read q also on few k) = absurd (apart words q o is_read also some (text_is_read q.command on) none)
+  due_once words bytes world _ _ (IsDue.bench o some none) (IsDue.read q also on few k x) = absurd (apart words q o is_read also some (text_is_read q.command on) none)
   due_once words bytes world _ _ (IsDue.bench o some none) (IsDue.replayed q also on few k) = absurd (apart words q o is_read also some (replay_is_read q.command on) none)
   due_once words bytes world _ _ (IsDue.too_long o some reads more) (IsDue.usage k) = absurd (some_options words o some k)
   due_once words bytes world _ _ (IsDue.too_long o some reads more) (IsDue.bench q also none) = absurd (apart words o q is_read some also reads none)
   due_once words bytes world _ _ (IsDue.too_long o some reads more) (IsDue.too_long q also sees too) = refl
-  due_once words bytes world _ _ (IsDue.too_long o some reads more) (IsDue.read q also on few k) =
+  due_once words bytes world _ _ (IsDue.too_long o some reads more) (IsDue.read q also on few k x) =
       absurd (omega (arith, more, few, ap (λ (z : Options). limit_of z.command) (same_options words o q some also)))
   due_once words bytes world _ _ (IsDue.too_long o some reads more) (IsDue.replayed q also on few k) =
       absurd (omega (arith, more, few, ap (λ (z : Options). limit_of z.command) (same_options words o q some also)))
-  due_once words bytes world _ _ (IsDue.read o some on few h) (IsDue.usage k) = absurd (some_options words o some k)
-  due_once words bytes world _ _ (IsDue.read o some on few h) (IsDue.bench q also none) = absurd (apart words o q is_read some also (text_is_read o.command on) none)
-  due_once words bytes world _ _ (IsDue.read o some on few h) (IsDue.too_long q also reads more) =
+  due_once words bytes world _ _ (IsDue.read o some on few h x) (IsDue.usage k) = absurd (some_options words o some k)
+  due_once words bytes world _ _ (IsDue.read o some on few h x) (IsDue.bench q also none) = absurd (apart words o q is_read some also (text_is_read o.command on) none)
+  due_once words bytes world _ _ (IsDue.read o some on few h x) (IsDue.too_long q also reads more) =
       absurd (omega (arith, more, few, ap (λ (z : Options). limit_of z.command) (same_options words o q some also)))
-  due_once words bytes world _ _ (IsDue.read {reading = x} o some on few h) (IsDue.read {reading = y} q also off less k) =
-      ap (λ (z : Options). due_read z x world) (same_options words o q some also) ∙ ap (λ (z : Reading). due_read q z world) (once bytes x y h k)
-  due_once words bytes world _ _ (IsDue.read o some on few h) (IsDue.replayed q also off less k) = absurd (apart words o q is_on_text some also on (replay_is_no_text q.command off))
+  due_once words bytes world _ _ (IsDue.read {reading = x} {due = d} o some on few h i) (IsDue.read {reading = y} {due = e} q also off less k j) =
+      let both : Some d ≡ Some e = sym i ∙ same_due words bytes world x y o q some also h k ∙ j in cc
+  due_once words bytes world _ _ (IsDue.read o some on few h x) (IsDue.replayed q also off less k) = absurd (apart words o q is_on_text some also on (replay_is_no_text q.command off))
   due_once words bytes world _ _ (IsDue.replayed o some on few h) (IsDue.usage k) = absurd (some_options words o some k)
   due_once words bytes world _ _ (IsDue.replayed o some on few h) (IsDue.bench q also none) = absurd (apart words o q is_read some also (replay_is_read o.command on) none)
   due_once words bytes world _ _ (IsDue.replayed o some on few h) (IsDue.too_long q also reads more) =
       absurd (omega (arith, more, few, ap (λ (z : Options). limit_of z.command) (same_options words o q some also)))
-  due_once words bytes world _ _ (IsDue.replayed o some on few h) (IsDue.read q also off less k) = absurd (apart words q o is_on_text also some off (replay_is_no_text o.command on))
+  due_once words bytes world _ _ (IsDue.replayed o some on few h) (IsDue.read q also off less k x) = absurd (apart words q o is_on_text also some off (replay_is_no_text o.command on))
   due_once words bytes world _ _ (IsDue.replayed {r = x} o some on few h) (IsDue.replayed {r = y} q also off less k) =
       ap due_replayed (replays_once (program_part bytes) (history_part bytes) x y h k)
 
   on_text : (c d : Command) → c ≡ d → is_on_text d ≡ true → is_on_text c ≡ true
   on_text c d e h = ap is_on_text e ∙ h
 
-  text_limit : (c : Command) → is_on_text c ≡ true → limit_of c ≡ 2 ^ 20
-  text_limit Run e = refl
-  text_limit Check e = refl
-  text_limit Replay e = cc
-  text_limit Bench e = refl
-
-  within_limit : (o : Options) (n : ℕ) → is_on_text o.command ≡ true → n ≤ 2 ^ 20 → n ≤ limit_of o.command
-  within_limit o n on few = subst (λ (m : ℕ). n ≤ m) (sym (text_limit o.command on)) few
-
-  -- Of an accepted text it is the answer to its program.
+  -- Of a text that is read it is the answer to what it reads as.
   due_of_reading : (words : List (String Global)) (bytes : List ℕ) (world : Option WorldEnd) (d : Due) (o : Options) (reading : Reading)
-      → IsDue words bytes world d → length bytes ≤ 2 ^ 20 → ReadsAs bytes reading → asked words ≡ Some o → is_on_text o.command ≡ true → d ≡ due_read o reading world
-  due_of_reading words bytes world d o reading h few reads some on = due_once words bytes world d (due_read o reading world) h (IsDue.read o some on (within_limit o (length bytes) on few) reads)
+      → IsDue words bytes world d → length bytes ≤ limit_of o.command → ReadsAs bytes reading → asked words ≡ Some o → is_on_text o.command ≡ true → due_read o reading world ≡ Some d
+  due_of_reading words bytes world _ o reading (IsDue.usage none) few reads some on = absurd (some_options words o some none)
+  due_of_reading words bytes world _ o reading (IsDue.bench q also none) few reads some on = absurd (apart words o q is_read some also (text_is_read o.command on) none)
+  due_of_reading words bytes world _ o reading (IsDue.too_long q also sees more) few reads some on =
+      absurd (omega (arith, more, few, ap (λ (z : Options). limit_of z.command) (same_options words o q some also)))
+  due_of_reading words bytes world _ o reading (IsDue.read {reading = y} q also off less k e) few reads some on = same_due words bytes world reading y o q some also reads k ∙ e
+  due_of_reading words bytes world _ o reading (IsDue.replayed q also off less k) few reads some on = absurd (apart words o q is_on_text some also on (replay_is_no_text q.command off))
 
   pub due_check : (words : List (String Global)) (bytes : List ℕ) (world : Option WorldEnd) (d : Due) (o : Options) (p : Program)
-      → IsDue words bytes world d → length bytes ≤ 2 ^ 20 → ReadsAs bytes (accepted p) → asked words ≡ Some o → o.command ≡ Check → status_of d.refusal ≡ 0
+      → IsDue words bytes world d → length bytes ≤ limit_of o.command → ReadsAs bytes (accepted p) → asked words ≡ Some o → o.command ≡ Check → status_of d.refusal ≡ 0
   due_check words bytes world d o p h few reads some c =
-      ap (λ (x : Due). status_of x.refusal) (due_of_reading words bytes world d o (accepted p) h few reads some (on_text o.command Check c refl) ∙ ap (λ (x : Command). due_accepted x o p world) c)
+      let e : due_accepted Check o p world ≡ Some d = sym (ap (λ (x : Command). due_accepted x o p world) c) ∙ due_of_reading words bytes world d o (accepted p) h few reads some (on_text o.command Check c refl) in
+      let same : said Nothing accepted_text ≡ d = cc in
+      ap (λ (x : Due). status_of x.refusal) (sym same)
 
   pub due_run_status : (words : List (String Global)) (bytes : List ℕ) (world : Option WorldEnd) (d : Due) (o : Options) (p : Program)
-      → IsDue words bytes world d → length bytes ≤ 2 ^ 20 → ReadsAs bytes (accepted p) → asked words ≡ Some o → o.command ≡ Run → is_run o p ≡ true → IsRunStatus d
+      → IsDue words bytes world d → length bytes ≤ limit_of o.command → ReadsAs bytes (accepted p) → asked words ≡ Some o → o.command ≡ Run → is_run o p ≡ true → IsRunStatus d
   due_run_status words bytes world d o p h few reads some c built =
-      let e : d ≡ due_run o p world = due_of_reading words bytes world d o (accepted p) h few reads some (on_text o.command Run c refl) ∙ ap (λ (x : Command). due_accepted x o p world) c
-      ∙ ap (λ (b : Bool). if b then due_run o p world else due_refused not_built) built in
-      subst IsRunStatus (sym e) (run_status o p world)
+      let e : due_run o p world ≡ Some d =
+          sym (ap (λ (b : Bool). if b then due_run o p world else Some (due_refused not_built)) built) ∙ sym (ap (λ (x : Command). due_accepted x o p world) c)
+          ∙ due_of_reading words bytes world d o (accepted p) h few reads some (on_text o.command Run c refl) in
+      told_of IsRunStatus (due_run o p world) d e (run_status o p world)
 
   -- A refused text is refused.
   pub due_refusal : (words : List (String Global)) (bytes : List ℕ) (world : Option WorldEnd) (d : Due) (o : Options) (f : Fault)
-      → IsDue words bytes world d → length bytes ≤ 2 ^ 20 → ReadsAs bytes (refused f) → asked words ≡ Some o → is_on_text o.command ≡ true → d ≡ due_refused f
-  due_refusal words bytes world d o f h few reads some on = due_of_reading words bytes world d o (refused f) h few reads some on
+      → IsDue words bytes world d → length bytes ≤ limit_of o.command → ReadsAs bytes (refused f) → asked words ≡ Some o → is_on_text o.command ≡ true → d ≡ due_refused f
+  due_refusal words bytes world d o f h few reads some on =
+      let e : Some (due_refused f) ≡ Some d = due_of_reading words bytes world d o (refused f) h few reads some on in
+      let same : due_refused f ≡ d = cc in sym same
 
   -- A legal history is said to be legal.
   pub due_legal : (words : List (String Global)) (bytes : List ℕ) (world : Option WorldEnd) (d : Due) (o : Options) (b : Bool)
-      → IsDue words bytes world d → length bytes ≤ 2 ^ 26 → ReplaysAs (program_part bytes) (history_part bytes) (judged (verdict.legal b)) → asked words ≡ Some o → o.command ≡ Replay
+      → IsDue words bytes world d → length bytes ≤ limit_of o.command → ReplaysAs (program_part bytes) (history_part bytes) (judged (verdict.legal b)) → asked words ≡ Some o → o.command ≡ Replay
       → status_of d.refusal ≡ 0
   due_legal words bytes world d o b h few found some c =
       ap (λ (x : Due). status_of x.refusal) (due_once words bytes world d (due_judged (verdict.legal b)) h
-      (IsDue.replayed o some (ap is_replay c) (subst (λ (m : Command). length bytes ≤ limit_of m) (sym c) few) found))
+      (IsDue.replayed o some (ap is_replay c) few found))

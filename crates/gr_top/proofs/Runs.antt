@@ -19,11 +19,11 @@ use Rattle.gr_lang.specs.Next.{runs, start, start_at, next}
 use Rattle.gr_lang.specs.States.{State, Task, Mode, going, at_loop, ended, trapped, main_id, opening_state, child, is_going}
 use Rattle.gr_lang.specs.Steps.{step, goes_on, when, over_step}
 use Rattle.gr_lang.specs.Histories.{after, final, legal, complete}
-use Rattle.gr_top.specs.Alone.{straight_at, are_straight, DoesIn, IsAlone, work_left}
+use Rattle.gr_top.specs.AloneWords.{straight_at, are_straight, DoesIn, IsAlone, work_left}
 use Rattle.gr_top.specs.Built.{is_built, built_head, built_item, built_statement, built_at}
 use Rattle.gr_plain.specs.Held.{Held, stepped, with_state, entry_due, entry_of}
 use Rattle.gr_plain.proofs.Histories.{after_append}
-use Rattle.gr_top.specs.Runs.{Comes}
+use Rattle.gr_top.specs.RunWords.{Comes}
 use Rattle.gr_top.specs.Texts.{first_trap, first_of, trap_of}
 use Rattle.gr_top.specs.declared.texts.TrapAt.{TrapAt}
 use Rattle.gr_top.proofs.Alone.{Advances, found_main, call_advances, end_advances, trap_advances, over_steps}

@@ -20,7 +20,7 @@ use Rattle.gr_accept.specs.Operations.{operation_of}
 use Rattle.gr_lang.specs.Openings.{opening, object_of}
 use Rattle.gr_lang.specs.Next.{Todo, Running, run, arrive, Look, pure, acts, look, look_at, look_set, look_todo, next, at_limit, after_look, Stands, go_on, go_on_todo, go_on_at, acted, named_action, if_fits, fits, call_action, reducer_number, set_all}
 use Rattle.gr_lang.specs.Parts.{op_of}
-use Rattle.gr_top.specs.Alone.{straight_at, are_straight, Does}
+use Rattle.gr_top.specs.AloneWords.{straight_at, are_straight, Does}
 
 abbrev Looked : Running → Look → Type 0
 Looked t (pure None) = Unit {0}

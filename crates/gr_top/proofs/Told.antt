@@ -2,6 +2,7 @@
 use Rattle.std.proofs.Common.{◌≡◌, ◌≢◌, ℕ, ◌<◌, ◌≤◌, ◌^◌, List, Bool, true, false, Option, Some, None, refl, sym, ap, ◌∙◌, subst, arith, length, is_some, ◌⊎◌, inl, inr}
 use Rattle.std.specs.Prelude.{IfSome, ◌++◌, [], String, if◌then◌else◌}
 use Rattle.std.specs.declared.alloc.Global.{Global}
+use Rattle.std.specs.Option.{option_map}
 use Rattle.std.specs.Io.KnownBytes.{Appends}
 use Rattle.gr_syntax.specs.declared.syntax.Program.{Program}
 use Rattle.gr_syntax.specs.declared.refusal.Kind.{Kind}
@@ -20,7 +21,7 @@ use Rattle.gr_top.specs.Commands.{asked, is_on_text, is_replay, is_read, limit_o
 use Rattle.gr_top.specs.Due.{Reading, accepted, refused, Replayed, unread, bad_line, judged, Due, due_usage, due_too_long, due_read, due_refused, due_accepted, due_run, due_of_run, due_trapped, due_replayed, due_judged, told, followed, not_built, status_of, Came}
 use Rattle.gr_top.specs.Readings.{ReadsAs, ReplaysAs, IsDue, Answered, IsRunOf, IsWorldOf, Refusing}
 use Rattle.gr_top.specs.Texts.{usage_text, too_long_text, prints, first_trap}
-use Rattle.gr_top.specs.Views.{made}
+use Rattle.gr_top.specs.AnswerView.{made}
 use Rattle.gr_top.specs.declared.answer.Answer.{Answer}
 use Rattle.gr_top.specs.declared.answer.Refusal.{Refusal}
 use Rattle.gr_top.specs.declared.answer.Refusal.TheVariants as r
@@ -37,33 +38,42 @@ IsReadStatus d = (status_of d.refusal ≡ 0) ⊎ ((status_of d.refusal ≡ 1) �
 abbrev IsReplayStatus : Due → Type 0
 IsReplayStatus d = (status_of d.refusal ≡ 0) ⊎ ((status_of d.refusal ≡ 1) ⊎ ((status_of d.refusal ≡ 9) ⊎ (status_of d.refusal ≡ 10)))
 
-trap_status : (history : List Entry) (t : Option TrapAt) → IsRunStatus (due_trapped history t)
-trap_status history None = inl refl
+-- What holds of each due answer holds of this one.
+pub told_of : (P : Due → Type 0) (x : Option Due) (d : Due) → x ≡ Some d → IfSome x P → P d
+told_of P x d e h = subst (λ (y : Option Due). IfSome y P) e h
+
+trap_status : (history : List Entry) (t : Option TrapAt) → IfSome (due_trapped history t) IsRunStatus
+trap_status history None = tt
 trap_status history (Some t) = inr refl
 
-after_status : (history : List Entry) (b : Bool) → IsRunStatus (due_of_run b history)
+after_status : (history : List Entry) (b : Bool) → IfSome (due_of_run b history) IsRunStatus
 after_status history true = inl refl
 after_status history false = trap_status history (first_trap history)
 
-pub run_status : (o : Options) (p : Program) (world : Option WorldEnd) → IsRunStatus (due_run o p world)
-run_status o p None = inl refl
-run_status o p (Some world) = after_status world.history (complete p o.cores o.steps world.history)
+followed_status : (x : Option Due) (more : List ℕ) → IfSome x IsRunStatus → IfSome (option_map (λ due. followed due more) x) IsRunStatus
+followed_status None more h = tt
+followed_status (Some d) more h = h
 
-widened : (d : Due) → IsRunStatus d → IsReadStatus d
-widened d (inl h) = inl h
-widened d (inr h) = inr (inr h)
+pub run_status : (o : Options) (p : Program) (world : Option WorldEnd) → IfSome (due_run o p world) IsRunStatus
+run_status o p None = tt
+run_status o p (Some world) = followed_status (due_of_run (complete p o.cores o.steps world.history) world.history) _ (after_status world.history (complete p o.cores o.steps world.history))
 
-built_status : (o : Options) (p : Program) (world : Option WorldEnd) (b : Bool) → IsReadStatus (if b then due_run o p world else due_refused not_built)
+widened : (x : Option Due) → IfSome x IsRunStatus → IfSome x IsReadStatus
+widened None h = tt
+widened (Some d) (inl h) = inl h
+widened (Some d) (inr h) = inr (inr h)
+
+built_status : (o : Options) (p : Program) (world : Option WorldEnd) (b : Bool) → IfSome (if b then due_run o p world else Some (due_refused not_built)) IsReadStatus
 built_status o p world true = widened (due_run o p world) (run_status o p world)
 built_status o p world false = inr (inl refl)
 
-accepted_status : (c : Command) (o : Options) (p : Program) (world : Option WorldEnd) → IsReadStatus (due_accepted c o p world)
+accepted_status : (c : Command) (o : Options) (p : Program) (world : Option WorldEnd) → IfSome (due_accepted c o p world) IsReadStatus
 accepted_status Check o p world = inl refl
 accepted_status Run o p world = built_status o p world (is_run o p)
 accepted_status Replay o p world = inr (inl refl)
 accepted_status Bench o p world = inr (inl refl)
 
-read_status : (o : Options) (reading : Reading) (world : Option WorldEnd) → IsReadStatus (due_read o reading world)
+read_status : (o : Options) (reading : Reading) (world : Option WorldEnd) → IfSome (due_read o reading world) IsReadStatus
 read_status o (refused f) world = inr (inl refl)
 read_status o (accepted p) world = accepted_status o.command o p world
 
@@ -76,10 +86,10 @@ replay_status (unread f) = inr (inl refl)
 replay_status (bad_line n) = inr (inr (inr refl))
 replay_status (judged v) = judged_status v
 
-not_read : (o : Options) (reading : Reading) (world : Option WorldEnd) (n : ℕ) → status_of (due_read o reading world).refusal ≡ n → n ≢ 0 → n ≢ 1 → n ≢ 3 → ⊥
-not_read o reading world n e x y z = by (read_status o reading world)
+not_read : (o : Options) (reading : Reading) (world : Option WorldEnd) (d : Due) → due_read o reading world ≡ Some d → (n : ℕ) → status_of d.refusal ≡ n → n ≢ 0 → n ≢ 1 → n ≢ 3 → ⊥
+not_read o reading world d k n e x y z = by (told_of IsReadStatus (due_read o reading world) d k (read_status o reading world))
   where
-    by : IsReadStatus (due_read o reading world) → ⊥
+    by : IsReadStatus d → ⊥
     by (inl h) = x (sym e ∙ h)
     by (inr (inl h)) = y (sym e ∙ h)
     by (inr (inr h)) = z (sym e ∙ h)
@@ -98,8 +108,8 @@ pub usage_told : (words : List (String Global)) (bytes : List ℕ) (world : Opti
 usage_told words bytes world _ (IsDue.usage h) e = h
 usage_told words bytes world _ (IsDue.bench o some none) e = cc
 usage_told words bytes world _ (IsDue.too_long o some reads more) e = cc
-usage_told words bytes world _ (IsDue.read {reading} o some on few h) e =
-    absurd (not_read o reading world 2 (ap status_of e) (λ k. omega (arith, k)) (λ k. omega (arith, k)) (λ k. omega (arith, k)))
+usage_told words bytes world _ (IsDue.read {reading} {d} o some on few h k) e =
+    absurd (not_read o reading world d k 2 (ap status_of e) (λ k. omega (arith, k)) (λ k. omega (arith, k)) (λ k. omega (arith, k)))
 usage_told words bytes world _ (IsDue.replayed {r = found} o some on few h) e =
     absurd (not_replayed found 2 (ap status_of e) (λ k. omega (arith, k)) (λ k. omega (arith, k)) (λ k. omega (arith, k)) (λ k. omega (arith, k)))
 
@@ -109,8 +119,8 @@ pub too_long_told : (words : List (String Global)) (bytes : List ℕ) (world : O
 too_long_told words bytes world _ (IsDue.usage h) e = cc
 too_long_told words bytes world _ (IsDue.bench o some none) e = cc
 too_long_told words bytes world _ (IsDue.too_long o some reads more) e = subst (λ (x : Option Options). IfSome x (λ o. limit_of o.command < length bytes)) (sym some) more
-too_long_told words bytes world _ (IsDue.read {reading} o some on few h) e =
-    absurd (not_read o reading world 8 (ap status_of e) (λ k. omega (arith, k)) (λ k. omega (arith, k)) (λ k. omega (arith, k)))
+too_long_told words bytes world _ (IsDue.read {reading} {d} o some on few h k) e =
+    absurd (not_read o reading world d k 8 (ap status_of e) (λ k. omega (arith, k)) (λ k. omega (arith, k)) (λ k. omega (arith, k)))
 too_long_told words bytes world _ (IsDue.replayed {r = found} o some on few h) e =
     absurd (not_replayed found 8 (ap status_of e) (λ k. omega (arith, k)) (λ k. omega (arith, k)) (λ k. omega (arith, k)) (λ k. omega (arith, k)))
 
@@ -130,19 +140,30 @@ run_told : (options : Option Options) (bytes : List ℕ) (d : Due) → IsRunStat
 run_told options bytes d (inl h) kind line column e = absurd (omega (arith, h, ap status_of e))
 run_told options bytes d (inr h) kind line column e = absurd (omega (arith, h, ap status_of e))
 
+run_all : (options : Option Options) (bytes : List ℕ) (x : Option Due) → IfSome x IsRunStatus → IfSome x (Refused1 options bytes)
+run_all options bytes None h = tt
+run_all options bytes (Some d) h = run_told options bytes d h
+
 built_told : (bytes : List ℕ) (world : Option WorldEnd) (o : Options) (p : Program) → o.command ≡ Run → ReadsAs bytes (accepted p) → (b : Bool) → is_run o p ≡ b
-    → Refused1 (Some o) bytes (if b then due_run o p world else due_refused not_built)
-built_told bytes world o p c h true e = run_told (Some o) bytes (due_run o p world) (run_status o p world)
+    → IfSome (if b then due_run o p world else Some (due_refused not_built)) (Refused1 (Some o) bytes)
+built_told bytes world o p c h true e = run_all (Some o) bytes (due_run o p world) (run_status o p world)
 built_told bytes world o p c h false e = fault_told (Some o) bytes not_built (Refusing.of_run c h e)
 
 accepted_told : (bytes : List ℕ) (world : Option WorldEnd) (o : Options) (c : Command) (p : Program) → o.command ≡ c → is_on_text c ≡ true → ReadsAs bytes (accepted p)
-    → Refused1 (Some o) bytes (due_accepted c o p world)
+    → IfSome (due_accepted c o p world) (Refused1 (Some o) bytes)
 accepted_told bytes world o Check p c on h = λ kind line column e. cc
 accepted_told bytes world o Run p c on h = built_told bytes world o p c h (is_run o p) refl
-accepted_told bytes world o Replay p c on h = λ kind line column e. cc
-accepted_told bytes world o Bench p c on h = λ kind line column e. cc
+accepted_told bytes world o Replay p c on h = absurd (no_text on)
+  where
+    no_text : false ≡ true → ⊥
+    no_text k = cc
+accepted_told bytes world o Bench p c on h = absurd (no_text on)
+  where
+    no_text : false ≡ true → ⊥
+    no_text k = cc
 
-read_told : (bytes : List ℕ) (world : Option WorldEnd) (o : Options) (reading : Reading) → is_on_text o.command ≡ true → ReadsAs bytes reading → Refused1 (Some o) bytes (due_read o reading world)
+read_told : (bytes : List ℕ) (world : Option WorldEnd) (o : Options) (reading : Reading) → is_on_text o.command ≡ true → ReadsAs bytes reading
+    → IfSome (due_read o reading world) (Refused1 (Some o) bytes)
 read_told bytes world o (refused f) on h = fault_told (Some o) bytes f (Refusing.of_text on h)
 read_told bytes world o (accepted p) on h = accepted_told bytes world o o.command p refl on h
 
@@ -167,7 +188,8 @@ refused_told words bytes world _ (IsDue.usage h) = λ kind line column e. cc
 refused_told words bytes world _ (IsDue.bench o some none) =
     with_options (asked words) o bytes (due_refused not_built) some (fault_told (Some o) bytes not_built (Refusing.of_bench (is_bench o.command none)))
 refused_told words bytes world _ (IsDue.too_long o some reads more) = λ kind line column e. cc
-refused_told words bytes world _ (IsDue.read {reading} o some on few h) = with_options (asked words) o bytes (due_read o reading world) some (read_told bytes world o reading on h)
+refused_told words bytes world _ (IsDue.read {reading} {d} o some on few h k) =
+    with_options (asked words) o bytes d some (told_of (Refused1 (Some o) bytes) (due_read o reading world) d k (read_told bytes world o reading on h))
 refused_told words bytes world _ (IsDue.replayed {r = found} o some on few h) = with_options (asked words) o bytes (due_replayed found) some (replay_told bytes o found on h)
 
 -- The history is no history of the program, or its text is none.
@@ -194,8 +216,8 @@ pub entry_told : (words : List (String Global)) (bytes : List ℕ) (world : Opti
 entry_told words bytes world _ (IsDue.usage h) entry e = cc
 entry_told words bytes world _ (IsDue.bench o some none) entry e = cc
 entry_told words bytes world _ (IsDue.too_long o some reads more) entry e = cc
-entry_told words bytes world _ (IsDue.read {reading} o some on few h) entry e =
-    absurd (not_read o reading world 9 (ap status_of e) (λ k. omega (arith, k)) (λ k. omega (arith, k)) (λ k. omega (arith, k)))
+entry_told words bytes world _ (IsDue.read {reading} {d} o some on few h k) entry e =
+    absurd (not_read o reading world d k 9 (ap status_of e) (λ k. omega (arith, k)) (λ k. omega (arith, k)) (λ k. omega (arith, k)))
 entry_told words bytes world _ (IsDue.replayed {r = found} o some on few h) entry e = subst (ReplaysAs (program_part bytes) (history_part bytes)) (found_entry found entry e) h
 
 pub line_told : (words : List (String Global)) (bytes : List ℕ) (world : Option WorldEnd) (d : Due) → IsDue words bytes world d → (line : ℕ) → d.refusal ≡ r.BadLine line
@@ -203,6 +225,6 @@ pub line_told : (words : List (String Global)) (bytes : List ℕ) (world : Optio
 line_told words bytes world _ (IsDue.usage h) line e = cc
 line_told words bytes world _ (IsDue.bench o some none) line e = cc
 line_told words bytes world _ (IsDue.too_long o some reads more) line e = cc
-line_told words bytes world _ (IsDue.read {reading} o some on few h) line e =
-    absurd (not_read o reading world 10 (ap status_of e) (λ k. omega (arith, k)) (λ k. omega (arith, k)) (λ k. omega (arith, k)))
+line_told words bytes world _ (IsDue.read {reading} {d} o some on few h k) line e =
+    absurd (not_read o reading world d k 10 (ap status_of e) (λ k. omega (arith, k)) (λ k. omega (arith, k)) (λ k. omega (arith, k)))
 line_told words bytes world _ (IsDue.replayed {r = found} o some on few h) line e = subst (ReplaysAs (program_part bytes) (history_part bytes)) (found_line found line e) h

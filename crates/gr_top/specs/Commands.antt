@@ -6,6 +6,7 @@ use Rattle.gr_cli.specs.declared.settings.Options.{Options}
 use Rattle.gr_cli.specs.declared.settings.Command.{Command}
 use Rattle.gr_cli.specs.declared.settings.Command.TheVariants.{Run, Check, Replay, Bench}
 use Rattle.gr_cli.specs.Options.{options_of}
+use Rattle.gr_io.specs.declared.limits.TheConstants.{MAX_PROGRAM, MAX_REPLAY}
 use Rattle.gr_top.specs.Built.{is_built}
 
 -- The options of the words; none where they are no command line.
@@ -30,13 +31,13 @@ is_read _ = true
 -- The words ask for nothing that the source holds.
 abbrev pub IsUnread : Option Options → Type 0
 IsUnread None = Unit {0}
-IsUnread (Some o) = is_read o.command ≡ false
+IsUnread (Some options) = is_read options.command ≡ false
 
 -- The most bytes that a source may hold.
 abbrev pub limit_of : Command → ℕ
-limit_of Replay = 2 ^ 26
-limit_of _ = 2 ^ 20
+limit_of Replay = MAX_REPLAY
+limit_of _ = MAX_PROGRAM
 
 -- What is run today: one core, no limit on events, no counts, and a program that is built.
 abbrev pub is_run : Options → Program → Bool
-is_run o p = o.cores == 1 && (o.events == 2 ^ 40 && (not o.counts && is_built p))
+is_run options program = options.cores == 1 && (options.events == 2 ^ 40 && (not options.counts && is_built program))

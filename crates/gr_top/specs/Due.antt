@@ -1,9 +1,10 @@
 -- The answer due: the refusal and the text for the options, what the text reads as, and the history of its run; and what comes of it.
 use Rattle.std.specs.Prelude.{◌≡◌, ℕ, ◌<◌, Bool, true, false, if◌then◌else◌, List, [], ◌++◌, length, take, Option, None, Some, is_some}
+use Rattle.std.specs.Option.{option_map}
 use Rattle.std.specs.Io.KnownBytes.{Appends}
 use Rattle.gr_syntax.specs.declared.syntax.Program.{Program}
 use Rattle.gr_syntax.specs.declared.refusal.Fault.{Fault}
-use Rattle.gr_syntax.specs.declared.refusal.Kind.TheVariants as k
+use Rattle.gr_syntax.specs.declared.refusal.Kind.TheVariants as kind
 use Rattle.gr_lang.specs.declared.action.Entry.{Entry}
 use Rattle.gr_syntax.specs.Faults.{fault}
 use Rattle.gr_lang.specs.Histories.{complete}
@@ -63,42 +64,45 @@ abbrev pub due_refused : Fault → Due
 due_refused f = said (Refused f.kind f.at.line f.at.column) (refused_text f)
 
 abbrev pub not_built : Fault
-not_built = fault k.NotBuilt (record { line = 1; column = 1 })
+not_built = fault kind.NotBuilt (record { line = 1; column = 1 })
 
--- Of a run that was trapped; a run that neither ends nor is trapped isn't kept.
-abbrev pub due_trapped : List Entry → Option TrapAt → Due
-due_trapped history None = record { refusal = Nothing; text = prints history; ran = true }
-due_trapped history (Some t) = record { refusal = Trap t.kind t.task; text = prints history ++ trap_text t; ran = true }
+-- Of a run that isn't complete: its prints and its first trap. Of one without a trap nothing is due, since it hasn't ended.
+abbrev pub due_trapped : List Entry → Option TrapAt → Option Due
+due_trapped history None = None
+due_trapped history (Some at) = Some (record { refusal = Trap at.kind at.task; text = prints history ++ trap_text at; ran = true })
 
--- Of a run with this history, which is complete or not: its prints where it is complete, and else its prints and its first trap.
-abbrev pub due_of_run : Bool → List Entry → Due
-due_of_run true history = record { refusal = Nothing; text = prints history; ran = true }
+-- Of a run with this history, which is complete or not: its prints where it is complete.
+abbrev pub due_of_run : Bool → List Entry → Option Due
+due_of_run true history = Some (record { refusal = Nothing; text = prints history; ran = true })
 due_of_run false history = due_trapped history (first_trap history)
 
 -- The history text follows where the options ask for it.
 abbrev pub told : Bool → Program → ℕ → ℕ → List Entry → List ℕ
-told true p cores steps history = history_text p cores steps history
-told false p cores steps history = []
+told true program cores steps history = history_text program cores steps history
+told false program cores steps history = []
 
 abbrev pub followed : Due → List ℕ → Due
 followed d more = record d { text = d.text ++ more }
 
-abbrev pub due_after : Options → Program → List Entry → Due
-due_after o p history = followed (due_of_run (complete p o.cores o.steps history) history) (told o.history p o.cores o.steps history)
+abbrev pub due_after : Options → Program → List Entry → Option Due
+due_after options program history =
+    option_map (λ due. followed due (told options.history program options.cores options.steps history))
+    (due_of_run (complete program options.cores options.steps history) history)
 
-abbrev pub due_run : Options → Program → Option WorldEnd → Due
-due_run o p None = record { refusal = Nothing; text = []; ran = true }
-due_run o p (Some world) = due_after o p world.history
+-- Of a run nothing is due before it is kept.
+abbrev pub due_run : Options → Program → Option WorldEnd → Option Due
+due_run options program None = None
+due_run options program (Some world) = due_after options program world.history
 
-abbrev pub due_accepted : Command → Options → Program → Option WorldEnd → Due
-due_accepted Check o p world = said Nothing accepted_text
-due_accepted Run o p world = if is_run o p then due_run o p world else due_refused not_built
-due_accepted _ o p world = due_refused not_built
+abbrev pub due_accepted : Command → Options → Program → Option WorldEnd → Option Due
+due_accepted Check options program world = Some (said Nothing accepted_text)
+due_accepted Run options program world = if is_run options program then due_run options program world else Some (due_refused not_built)
+due_accepted _ options program world = Some (due_refused not_built)
 
 -- Of a command on a text that was read.
-abbrev pub due_read : Options → Reading → Option WorldEnd → Due
-due_read o (refused f) world = due_refused f
-due_read o (accepted p) world = due_accepted o.command o p world
+abbrev pub due_read : Options → Reading → Option WorldEnd → Option Due
+due_read options (refused fault) world = Some (due_refused fault)
+due_read options (accepted program) world = due_accepted options.command options program world
 
 -- Of a replay.
 abbrev pub due_judged : Verdict → Due

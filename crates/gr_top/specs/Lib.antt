@@ -1,9 +1,11 @@
 pub mod Commands
 pub mod Built
-pub mod Alone
 pub mod Texts
 pub mod Due
 pub mod Readings
-pub mod Views
-pub mod Runs
+pub mod Promises
 pub mod Counts
+-- For proofs and private functions.
+pub mod AloneWords
+pub mod AnswerView
+pub mod RunWords

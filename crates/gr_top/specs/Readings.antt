@@ -2,7 +2,7 @@
 use Rattle.std.specs.Prelude.{◌≡◌, ◌≢◌, ◌<◌, ◌≤◌, ◌^◌, ℕ, true, false, List, length, map, Ok, Err, Option, None, Some, is_some, ◌⊎◌, String}
 use Rattle.std.specs.declared.alloc.Global.{Global}
 use Rattle.gr_syntax.specs.declared.syntax.Program.{Program}
-use Rattle.gr_syntax.specs.declared.refusal.Kind.TheVariants as k
+use Rattle.gr_syntax.specs.declared.refusal.Kind.TheVariants as kind
 use Rattle.gr_syntax.specs.declared.refusal.Fault.{Fault}
 use Rattle.gr_syntax.specs.Faults.{fault, IsFirst}
 use Rattle.gr_accept.specs.Accepted.{faults, IsAccepted}
@@ -33,13 +33,13 @@ use Rattle.gr_lang.specs.Histories.{legal, complete}
 use Rattle.std.specs.Io.KnownBytes.{Keeps}
 
 pub data ReadsAs (text : List ℕ) : Reading → Type 0 where
-  bad_byte : {at : ℕ} → Reads text (Err (text_errors.BadByte at)) → ReadsAs text (refused (fault k.BadByte (place_of text at)))
-  wide_number : {at : ℕ} → Reads text (Err (text_errors.NumberTooWide at)) → ReadsAs text (refused (fault k.NumberTooWide (place_of text at)))
-  long_name : {at : ℕ} → Reads text (Err (text_errors.NameTooLong at)) → ReadsAs text (refused (fault k.NameTooLong (place_of text at)))
+  bad_byte : {at : ℕ} → Reads text (Err (text_errors.BadByte at)) → ReadsAs text (refused (fault kind.BadByte (place_of text at)))
+  wide_number : {at : ℕ} → Reads text (Err (text_errors.NumberTooWide at)) → ReadsAs text (refused (fault kind.NumberTooWide (place_of text at)))
+  long_name : {at : ℕ} → Reads text (Err (text_errors.NameTooLong at)) → ReadsAs text (refused (fault kind.NameTooLong (place_of text at)))
   unexpected : {tokens : List Token} {line column : ℕ} → Reads text (Ok tokens) → Says (parse_errors.Unexpected line column) text tokens
-      → ReadsAs text (refused (fault k.Unexpected (record { line = line; column = column })))
+      → ReadsAs text (refused (fault kind.Unexpected (record { line = line; column = column })))
   unexpected_end : {tokens : List Token} {line column : ℕ} → Reads text (Ok tokens) → Says (parse_errors.UnexpectedEnd line column) text tokens
-      → ReadsAs text (refused (fault k.UnexpectedEnd (record { line = line; column = column })))
+      → ReadsAs text (refused (fault kind.UnexpectedEnd (record { line = line; column = column })))
   checked : {tokens : List Token} {p : Program} {f : Fault} → Reads text (Ok tokens) → IsProgramOf text tokens p → IsFirst f (faults p) → ReadsAs text (refused f)
   program : {tokens : List Token} {p : Program} → Reads text (Ok tokens) → IsProgramOf text tokens p → IsAccepted p → ReadsAs text (accepted p)
 
@@ -54,8 +54,8 @@ pub data IsDue (words : List (String Global)) (bytes : List ℕ) (world : Option
   usage : asked words ≡ None → IsDue words bytes world due_usage
   bench : (o : Options) → asked words ≡ Some o → is_read o.command ≡ false → IsDue words bytes world (due_refused not_built)
   too_long : (o : Options) → asked words ≡ Some o → is_read o.command ≡ true → limit_of o.command < length bytes → IsDue words bytes world due_too_long
-  read : {reading : Reading} → (o : Options) → asked words ≡ Some o → is_on_text o.command ≡ true → length bytes ≤ limit_of o.command → ReadsAs bytes reading
-      → IsDue words bytes world (due_read o reading world)
+  read : {reading : Reading} {due : Due} → (o : Options) → asked words ≡ Some o → is_on_text o.command ≡ true → length bytes ≤ limit_of o.command → ReadsAs bytes reading
+      → due_read o reading world ≡ Some due → IsDue words bytes world due
   replayed : {r : Replayed} → (o : Options) → asked words ≡ Some o → is_replay o.command ≡ true → length bytes ≤ limit_of o.command → ReplaysAs (program_part bytes) (history_part bytes) r
       → IsDue words bytes world (due_replayed r)
 

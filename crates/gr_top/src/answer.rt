@@ -1,10 +1,9 @@
 //! How a call ends.
-use gr_lang::{TaskId, TrapKind};
-use gr_lang::History;
+use gr_lang::{History, TaskId, TrapKind};
 use gr_syntax::Kind;
 
 /// Why a call didn't end as it might have.
-#[derive(Clone, Copy, Debug, PartialEq, Eq)]
+#[derive(Clone, Copy, PartialEq, Eq)]
 pub enum Refusal {
     /// It did: the program ran to its end, or was accepted.
     Nothing,

@@ -156,7 +156,7 @@ fn built_right(items: &[Item], right: &Right) -> bool
     match right {
         Right::Value { value } => is_plain(value),
         Right::Result { call } => {
-            let is_among = replies_word(operation_of(&call.op.text));
+            let is_among = replies_word(operation_of(call.op.text.as_bytes()));
             let is_fitting = fits_array(items, call);
             is_among && is_fitting
         }
@@ -171,7 +171,7 @@ fn built_statement(items: &[Item], statement: &Stmt) -> bool
     match statement {
         Stmt::Set1 { right, .. } => built_right(items, right),
         Stmt::Do { call } => {
-            let is_among = is_word_call(operation_of(&call.op.text));
+            let is_among = is_word_call(operation_of(call.op.text.as_bytes()));
             let is_fitting = fits_array(items, call);
             is_among && is_fitting
         }

@@ -1,24 +1,14 @@
 //! The top call.
-ghost use Rattle.std.specs.Prelude.{List, Bool, ◌++◌, String, ◌≡◌, ◌≢◌, ℕ, ◌+◌, ◌<◌, ◌≤◌, ◌^◌, ◌⊎◌, IfOk, IsErrOf, IfSome, IsSome, Some, None, length, true, false};
-ghost use Rattle.std.specs.Io.KnownBytes.{Keeps, Appends, Consumes};
+ghost use Rattle.std.specs.Prelude.{List, String, ◌≡◌, ◌≢◌, ℕ, ◌+◌, ◌≤◌, ◌⊎◌, IfOk, IsErrOf, IfSome, Some, None, length, true};
+ghost use Rattle.std.specs.Io.KnownBytes.{Keeps, Consumes};
 ghost use Rattle.gr_io.specs.Amounts.{ConsumesAtMost};
 ghost use Rattle.gr_io.specs.Faults.{Rose};
-ghost use Rattle.gr_syntax.specs.Faults.{fault};
-ghost use Rattle.gr_lang.specs.Histories.{legal, complete};
-ghost use Rattle.gr_syntax.specs.declared.syntax.Program.{Program};
-ghost use Rattle.gr_syntax.specs.declared.refusal.Kind.{Kind};
-ghost use Rattle.gr_syntax.specs.declared.refusal.Fault.{Fault};
-ghost use Rattle.gr_top.specs.declared.answer.WorldEnd.{WorldEnd};
-ghost use Rattle.gr_cli.specs.declared.settings.Options.{Options};
-ghost use Rattle.gr_cli.specs.declared.settings.Command.TheVariants as command;
-ghost use Rattle.gr_replay.specs.Division.{program_part, history_part};
-ghost use Rattle.gr_replay.specs.Judged.{legal as legal_as, not_legal as not_legal_as};
-ghost use Rattle.gr_top.specs.Commands.{asked as asked_of, is_on_text, is_read as reads_source, is_run, limit_of, IsUnread};
-ghost use Rattle.gr_top.specs.Due.{accepted, refused as refused_as, bad_line as bad_line_of, judged as judged_as, status_of, told, IsWritten};
+ghost use Rattle.gr_top.specs.Commands.{asked as asked_of, is_read as reads_source, limit_of, IsUnread};
+ghost use Rattle.gr_top.specs.Due.{status_of, IsWritten};
 ghost use Rattle.gr_top.specs.Counts.{CountsReads, CountsWrites, CountsStop};
-ghost use Rattle.gr_top.specs.Readings.{ReadsAs, ReplaysAs, IsDue, Answered, IsRunOf, IsWorldOf, IsDelivered, IsRetold, Refusing};
-ghost use Rattle.gr_top.specs.Texts.{prints};
-ghost use Rattle.gr_top.specs.Views.{made};
+ghost use Rattle.gr_top.specs.Promises.{AnsweredSome, AnswersChecks, AnswersRefused, AnswersReplays, AnswersRuns, BadLineWhere, IsTooLong, NotLegalWhere, RanWell, RefusedWhere};
+ghost use Rattle.gr_top.specs.Readings.{IsDue, Answered, IsWorldOf, IsDelivered, IsRetold};
+ghost use Rattle.gr_top.specs.AnswerView.{made};
 
 use crate::answer::{Answer, Refusal, RunEnd};
 use crate::command::{asked, is_read, is_replay, source_limit};
@@ -31,7 +21,7 @@ use gr_io::{ReadAllError, Sink, Source, read_all};
 use std::alloc::{AllocError, Global};
 
 /// Why there is no answer to write.
-#[derive(Clone, Copy, Debug, PartialEq, Eq)]
+#[derive(Clone, Copy)]
 enum Stop {
     ReadFault,
     Memory,
@@ -103,9 +93,9 @@ fn answer<S: Source>(alloc: Global, words: &[String], source: &mut S) -> Result<
 
 /// One command, from the words of the command line and the bytes of a source to the bytes of a sink.
 ///
-/// The words are those of `gr_cli::options`. `run` and `check` read a program's text, of at most 2^20 bytes;
-/// `replay` reads a program's text, a line that is exactly `---`, and a history text, of at most 2^26 bytes
-/// together; `bench` and words that are refused read nothing. All texts, refusals included, go to the sink,
+/// The words are those of `gr_cli::options`. `run` and `check` read a program's text, of at most
+/// [`gr_io::MAX_PROGRAM`] bytes; `replay` reads a program's text, a line that is exactly `---`, and a history
+/// text, of at most [`gr_io::MAX_REPLAY`] bytes together; `bench` and words that are refused read nothing. All texts, refusals included, go to the sink,
 /// and all memory is taken before the first write.
 pub fn top<S: Source, K: Sink>(
     alloc: Global,
@@ -121,45 +111,38 @@ pub fn top<S: Source, K: Sink>(
     ensures history { IfSome (S.left source.old) (λ bytes. IsWorldOf words.now bytes result.world) }
     ensures retold { IfSome (S.left source.old) (λ bytes. IsRetold words.now bytes result.world) }
 
-    // Where the source doesn't tell what it holds, the same for the bytes that it gave.
-    ensures some_bytes { IsDelivered result.refusal → (bytes : List ℕ) × Consumes (S.left source.old) (S.left source.new) bytes
-        × Answered words.now bytes (K.got sink.old) (K.got sink.new) result.refusal result.world
-        × IsWorldOf words.now bytes result.world }
+    // Where the source doesn't tell what it holds, there are bytes which it gave and which were answered so.
+    ensures some_bytes { IsDelivered result.refusal → AnsweredSome words.now (S.left source.old) (S.left source.new)
+        (K.got sink.old) (K.got sink.new) result.refusal result.world }
 
     // The headline: at status 0 a run was made whose history is legal and complete for the program of the text, and the sink got its prints, and its history text where that was asked for.
-    ensures headline { result.status ≡ 0 → (o : Options) → asked_of words.now ≡ Some o → o.command ≡ command.Run → IfSome (S.left source.old) (λ bytes.
-        (p : Program) × (world : WorldEnd) × ReadsAs bytes (accepted p) × (result.world ≡ Some world)
-        × (legal p o.cores o.steps world.history ≡ true) × (complete p o.cores o.steps world.history ≡ true)
-        × Appends (K.got sink.old) (K.got sink.new) (prints world.history ++ told o.history p o.cores o.steps world.history)) }
+    ensures headline { result.status ≡ 0 → IfSome (S.left source.old) (λ bytes.
+        RanWell words.now bytes (K.got sink.old) (K.got sink.new) result.world) }
 
-    // Nothing but memory and faults stands between an accepted text, or a legal history, and its answer.
-    ensures checks { IfSome (S.left source.old) (λ bytes. (o : Options) (p : Program) → length bytes ≤ 2 ^ 20 → ReadsAs bytes (accepted p) → asked_of words.now ≡ Some o
-        → o.command ≡ command.Check → (Rose (S.faults source.old) (S.faults source.new) → ⊥) → (Rose (K.faults sink.old) (K.faults sink.new) → ⊥) → (result.status ≡ 0) ⊎ (result.status ≡ 6)) }
-    ensures runs { IfSome (S.left source.old) (λ bytes. (o : Options) (p : Program) → length bytes ≤ 2 ^ 20 → ReadsAs bytes (accepted p) → asked_of words.now ≡ Some o
-        → o.command ≡ command.Run → is_run o p ≡ true → (Rose (S.faults source.old) (S.faults source.new) → ⊥) → (Rose (K.faults sink.old) (K.faults sink.new) → ⊥) → (result.status ≡ 0) ⊎ (result.status ≡ 3) ⊎ (result.status ≡ 6)) }
-    ensures replays { IfSome (S.left source.old) (λ bytes. (o : Options) (is_complete : Bool) → length bytes ≤ 2 ^ 26
-        → ReplaysAs (program_part bytes) (history_part bytes) (judged_as (legal_as is_complete))
-        → asked_of words.now ≡ Some o → o.command ≡ command.Replay → (Rose (S.faults source.old) (S.faults source.new) → ⊥) → (Rose (K.faults sink.old) (K.faults sink.new) → ⊥) → (result.status ≡ 0) ⊎ (result.status ≡ 6)) }
-
-    ensures refuses { IfSome (S.left source.old) (λ bytes. (o : Options) (f : Fault) → length bytes ≤ 2 ^ 20 → ReadsAs bytes (refused_as f)
-        → asked_of words.now ≡ Some o → is_on_text o.command ≡ true → (Rose (S.faults source.old) (S.faults source.new) → ⊥) → (Rose (K.faults sink.old) (K.faults sink.new) → ⊥) → (result.refusal ≡ Refusal.Refused f.kind f.at.line f.at.column) ⊎ (result.status ≡ 6)) }
+    // Nothing but memory and faults stands between an accepted text, or a legal history, or a refused text, and its answer.
+    ensures checks { IfSome (S.left source.old) (AnswersChecks words.now result.status
+        (Rose (S.faults source.old) (S.faults source.new)) (Rose (K.faults sink.old) (K.faults sink.new))) }
+    ensures runs { IfSome (S.left source.old) (AnswersRuns words.now result.status
+        (Rose (S.faults source.old) (S.faults source.new)) (Rose (K.faults sink.old) (K.faults sink.new))) }
+    ensures replays { IfSome (S.left source.old) (AnswersReplays words.now result.status
+        (Rose (S.faults source.old) (S.faults source.new)) (Rose (K.faults sink.old) (K.faults sink.new))) }
+    ensures refuses { IfSome (S.left source.old) (AnswersRefused words.now result.refusal
+        (Rose (S.faults source.old) (S.faults source.new)) (Rose (K.faults sink.old) (K.faults sink.new))) }
 
     // With neither an answer nor a fault of the sink, the sink isn't asked. However the call ends, no more is read than one byte beyond the limit.
     ensures silent { (result.refusal ≡ Refusal.Memory) ⊎ (result.refusal ≡ Refusal.ReadFault)
         → Keeps (K.got sink.old) (K.got sink.new) × (result.world ≡ None) }
     ensures untouched { (result.refusal ≡ Refusal.Memory) ⊎ (result.refusal ≡ Refusal.ReadFault) → sink.new ≡ sink.old }
-    ensures within { IfSome (asked_of words.now) (λ o. ConsumesAtMost (S.left source.old) (S.left source.new) (limit_of o.command + 1)) }
+    ensures within { IfSome (asked_of words.now) (λ options.
+        ConsumesAtMost (S.left source.old) (S.left source.new) (limit_of options.command + 1)) }
 
     // When each refusal comes; a fault of the source or of the sink is told, and counted once.
     ensures usage { result.refusal ≡ Refusal.Usage → asked_of words.now ≡ None }
     ensures unread { IsUnread (asked_of words.now) → source.new ≡ source.old }
-    ensures too_long { result.refusal ≡ Refusal.TooLong → IfSome (S.left source.old) (λ bytes. IfSome (asked_of words.now) (λ o. limit_of o.command < length bytes)) }
-    ensures refused { (kind : Kind) (line column : ℕ) → result.refusal ≡ Refusal.Refused kind line column
-        → IfSome (S.left source.old) (λ bytes. Refusing bytes (asked_of words.now) (fault kind (record { line = line; column = column }))) }
-    ensures not_legal { (entry : ℕ) → result.refusal ≡ Refusal.NotLegal entry
-        → IfSome (S.left source.old) (λ bytes. ReplaysAs (program_part bytes) (history_part bytes) (judged_as (not_legal_as entry))) }
-    ensures bad_line { (line : ℕ) → result.refusal ≡ Refusal.BadLine line
-        → IfSome (S.left source.old) (λ bytes. ReplaysAs (program_part bytes) (history_part bytes) (bad_line_of line)) }
+    ensures too_long { result.refusal ≡ Refusal.TooLong → IfSome (S.left source.old) (IsTooLong words.now) }
+    ensures refused { IfSome (S.left source.old) (RefusedWhere words.now result.refusal) }
+    ensures not_legal { IfSome (S.left source.old) (NotLegalWhere result.refusal) }
+    ensures bad_line { IfSome (S.left source.old) (BadLineWhere result.refusal) }
     ensures read_fault { CountsReads result.refusal (S.faults source.old) (S.faults source.new) }
     ensures write_fault { CountsWrites result.refusal (K.faults sink.old) (K.faults sink.new) }
     ensures status { result.status ≡ status_of result.refusal }

@@ -3,6 +3,7 @@ ghost use Rattle.std.specs.Prelude.{◌≡◌, IfOk};
 ghost use Rattle.gr_top.specs.Commands.{asked as asked_of, is_read as reads_source, is_replay as replays, limit_of};
 
 use gr_cli::{Command, Options, OptionsError, options};
+use gr_io::{MAX_PROGRAM, MAX_REPLAY};
 use std::alloc::{AllocError, Global};
 
 /// The options of the words; none where they are no command line.
@@ -42,7 +43,7 @@ pub(crate) fn source_limit(command: Command) -> u64
     ensures { result ≡ limit_of command }
 {
     match command {
-        Command::Replay => 1 << 26,
-        _ => 1 << 20,
+        Command::Replay => MAX_REPLAY,
+        Command::Run | Command::Check | Command::Bench => MAX_PROGRAM,
     }
 }

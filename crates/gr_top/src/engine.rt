@@ -1,5 +1,6 @@
 //! From options and a text to an answer that is whole before a byte is written.
-ghost use Rattle.std.specs.Prelude.{◌≡◌, ◌++◌, true, IfOk, IfSome, OnOk, None, Some, Ok};
+ghost use Rattle.std.specs.Prelude.{◌≡◌, ◌++◌, ◌⊎◌, true, IfOk, IfSome, OnOk, None, Some, Ok, is_some};
+ghost use Rattle.gr_top.specs.Texts.{first_trap};
 ghost use Rattle.gr_syntax.specs.declared.syntax.Program.{Program};
 ghost use Rattle.gr_lang.specs.Histories.{legal};
 ghost use Rattle.gr_cli.specs.Options.{IsWithinLimits};
@@ -8,7 +9,7 @@ ghost use Rattle.gr_hist.specs.Naming.{IsNamed, history_text};
 ghost use Rattle.gr_top.specs.Commands.{is_on_text, is_run as is_run_today};
 ghost use Rattle.gr_top.specs.Due.{Reading, accepted as accepted_as, not_built as not_built_fault, due_read, due_accepted, due_run, due_of_run, due_refused, followed, told, IsWritten};
 ghost use Rattle.gr_top.specs.Readings.{ReadsAs, IsRunOf, told_as};
-ghost use Rattle.gr_top.specs.Views.{made};
+ghost use Rattle.gr_top.specs.AnswerView.{made};
 
 use crate::answer::{Answer, Refusal, WorldEnd};
 use crate::built::is_built;
@@ -19,8 +20,7 @@ use gr_cli::{Command, Options};
 use gr_hist::write;
 use gr_accept::Accepted;
 use gr_lang::History;
-use gr_syntax::{Fault, Kind};
-use gr_syntax::Place;
+use gr_syntax::{Fault, Kind, Place};
 use std::alloc::{AllocError, Global};
 
 /// The greatest limit on events: no straight run on one core meets it.
@@ -77,18 +77,17 @@ fn concluded(
     history: &History,
     is_complete: bool,
 ) -> Result<(Refusal, Vec<u8>), AllocError>
-    ensures refusal { IfOk result (λ r. r.0 ≡ (due_of_run is_complete history.now).refusal) }
-    ensures text { IfOk result (λ r. r.1.items ≡ (due_of_run is_complete history.now).text) }
+    requires { (is_complete ≡ true) ⊎ (is_some (first_trap history.now) ≡ true) }
+    ensures due { IfOk result (λ r. due_of_run is_complete history.now ≡ Some (record { refusal = r.0; text = r.1.items; ran = true })) }
     ensures written { IfOk result (λ r. IsWritten r.0) }
 {
     let mut text = prints(alloc, history.as_slice())?;
-    let trap = if is_complete {
-        None
-    } else {
-        first_trap(history.as_slice())
-    };
+    if is_complete {
+        return Ok((Refusal::Nothing, text.into_bytes()));
+    }
+    let trap = first_trap(history.as_slice());
     match trap {
-        None => Ok((Refusal::Nothing, text.into_bytes())),
+        None => unreachable!(),
         Some(trap) => {
             write_trap(&mut text, trap)?;
             let refusal = Refusal::Trap {
@@ -124,7 +123,7 @@ fn add_history(
 fn run_program(alloc: Global, options: Options, program: &Accepted) -> Result<Answer, AllocError>
     requires today { is_run_today options program.now ≡ true }
     requires named { IsNamed program.now }
-    ensures due { IfOk result (λ a. made a ≡ due_run options program.now a.world) }
+    ensures due { IfOk result (λ a. due_run options program.now a.world ≡ Some (made a)) }
     ensures runs { IfOk result (λ a. IfSome a.world (λ world. IsRunOf options program.now world)) }
     ensures written { IfOk result (λ a. IsWritten a.refusal) }
 {
@@ -154,7 +153,7 @@ fn is_run(options: Options, program: &Accepted) -> bool
 /// The answer to an accepted program.
 fn accepted(alloc: Global, options: Options, program: &Accepted) -> Result<Answer, AllocError>
     requires { IsNamed program.now }
-    ensures due { IfOk result (λ a. made a ≡ due_accepted options.command options program.now a.world) }
+    ensures due { IfOk result (λ a. due_accepted options.command options program.now a.world ≡ Some (made a)) }
     ensures runs { IfOk result (λ a. IfSome a.world (λ world. IsRunOf options program.now world)) }
     ensures written { IfOk result (λ a. IsWritten a.refusal) }
 {
@@ -182,7 +181,7 @@ fn accepted(alloc: Global, options: Options, program: &Accepted) -> Result<Answe
 
 /// The answer to a command on a program text.
 pub(crate) fn run_text(alloc: Global, options: Options, text: &[u8]) -> Result<Answer, AllocError>
-    ensures due { IfOk result (λ a. (reading : Reading) × ReadsAs text.now reading × (made a ≡ due_read options reading a.world)) }
+    ensures due { IfOk result (λ a. (reading : Reading) × ReadsAs text.now reading × (due_read options reading a.world ≡ Some (made a))) }
     ensures world { IfOk result (λ a. IfSome a.world (λ world. (p : Program) × ReadsAs text.now (accepted_as p) × IsRunOf options p world)) }
     ensures written { IfOk result (λ a. IsWritten a.refusal) }
 {

@@ -3,16 +3,14 @@ ghost use Rattle.std.specs.Prelude.{◌≡◌, true, IfOk, IsErr, Ok};
 ghost use Rattle.gr_syntax.specs.Targets.{targets_fit};
 ghost use Rattle.gr_parse.specs.Grammar.{IsProgramOf, Says};
 ghost use Rattle.gr_text.specs.Text.{Reads, IsFaultOf};
-ghost use Rattle.gr_top.specs.Views.{reading_of};
+ghost use Rattle.gr_top.specs.AnswerView.{reading_of};
 ghost use Rattle.gr_top.specs.Readings.{ReadsAs};
 
-use gr_checker::check::{CheckError, check};
 use gr_accept::Accepted;
-use gr_syntax::{Fault, Kind};
-use gr_syntax::{Place, Program};
+use gr_checker::{CheckError, check};
 use gr_parse::{ParseError, parse};
-use gr_text::token::Tokens;
-use gr_text::{TextError, place, tokens};
+use gr_syntax::{Fault, Kind, Place, Program};
+use gr_text::{TextError, Tokens, place, tokens};
 use std::alloc::{AllocError, Global};
 
 /// What a text reads as.

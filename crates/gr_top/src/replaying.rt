@@ -4,17 +4,15 @@ ghost use Rattle.gr_replay.specs.Division.{program_part, history_part};
 ghost use Rattle.gr_replay.specs.Judged.{Verdict, Judged};
 ghost use Rattle.gr_top.specs.Due.{Replayed as Finding, accepted as accepted_as, due_judged, due_replayed, IsWritten};
 ghost use Rattle.gr_top.specs.Readings.{ReadsAs, ReplaysAs};
-ghost use Rattle.gr_top.specs.Views.{made};
+ghost use Rattle.gr_top.specs.AnswerView.{made};
 
 use crate::answer::{Answer, Refusal};
 use crate::engine::{refused, said};
 use crate::reading::{TextRead, read_text};
 use crate::texts::{bad_line_text, legal_text, not_legal_text};
-use gr_hist::read;
-use gr_hist::text::{HistError, HistoryText};
 use gr_accept::Accepted;
-use gr_replay::division::divide;
-use gr_replay::replay::{ReplayError, replay};
+use gr_hist::{HistError, HistoryText, read};
+use gr_replay::{ReplayError, divide, replay};
 use std::alloc::{AllocError, Global};
 
 /// An answer that tells no more than this line.

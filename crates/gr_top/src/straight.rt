@@ -5,9 +5,8 @@ ghost use Rattle.gr_top.specs.Built.{is_built as is_built_program};
 ghost use Rattle.gr_top.specs.Texts.{first_trap};
 
 use gr_accept::Accepted;
-use gr_lang::{Entry, TaskId};
-use gr_lang::History;
-use gr_plain::plain::{Plain, StepError};
+use gr_lang::{Entry, History, TaskId};
+use gr_plain::{Plain, StepError};
 use std::alloc::{AllocError, Global};
 
 /// The number of cores.

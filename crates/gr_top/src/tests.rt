@@ -37,23 +37,15 @@ fn tried(alloc: Global, piece: usize, reads: &[u64], writes: &[u64]) -> Result<G
 }
 
 #[test]
-fn runs(rt: HostRuntime) -> Result<(), Fail> {
-    let got = tried(rt.alloc(), 8, &[], &[])?;
-    assert_eq!(rt; got.refusal, Refusal::Nothing);
-    assert!(rt; got.written.as_slice() == DUE.as_bytes());
-    Ok(())
-}
-
-#[test]
 fn tells_each_fault(rt: HostRuntime) -> Result<(), Fail> {
     for read in 0..8u64 {
         let got = tried(rt.alloc(), 8, &[read], &[])?;
-        assert_eq!(rt; got.refusal, Refusal::ReadFault);
+        assert!(rt; got.refusal == Refusal::ReadFault);
         assert_eq!(rt; got.written.len(), 0);
     }
     for write in 0..4u64 {
         let got = tried(rt.alloc(), 64, &[], &[write])?;
-        assert_eq!(rt; got.refusal, Refusal::WriteFault { written: write });
+        assert!(rt; got.refusal == Refusal::WriteFault { written: write });
         assert!(rt; DUE.as_bytes().starts_with(got.written.as_slice()));
         assert_eq!(rt; got.written.len() as u64, write);
     }

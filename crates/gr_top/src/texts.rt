@@ -91,7 +91,7 @@ pub(crate) fn prints(alloc: Global, history: &[Entry]) -> Result<String, AllocEr
 }
 
 /// A task that is trapped, and why.
-#[derive(Clone, Copy, Debug, PartialEq, Eq)]
+#[derive(Clone, Copy)]
 pub(crate) struct TrapAt {
     pub kind: TrapKind,
     pub task: TaskId,

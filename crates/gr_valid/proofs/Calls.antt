@@ -41,7 +41,7 @@ call_valid p L S T id t op w h at m _ x e = cc
 -- ---- spawns
 
 -- The innermost scope of a task that hasn't ended is the root or open.
-innermost_held : (p : Program) (S : State) (id : TaskId) (t : Task) → IsValid p S → get S.tasks id ≡ Some t → t.mode ≢ ended → (innermost t ≡ 0) ⊎ IsOpen S (innermost t)
+pub innermost_held : (p : Program) (S : State) (id : TaskId) (t : Task) → IsValid p S → get S.tasks id ≡ Some t → t.mode ≢ ended → (innermost t ≡ 0) ⊎ IsOpen S (innermost t)
 innermost_held p S id t h at n = by t.opened refl
   where
     by : (ss : List ℕ) → t.opened ≡ ss → (innermost_of t.scope ss ≡ 0) ⊎ IsOpen S (innermost_of t.scope ss)
@@ -49,7 +49,7 @@ innermost_held p S id t h at n = by t.opened refl
     by (s ∷ ss) e = inr (record { id = id; task = t; there = at; opened = ap (λ (xs : List ℕ). holds xs s) e ∙ holds_first s ss })
 
 -- A new id is new after another task has gone on.
-new_after : (S : State) (id kid : TaskId) (t u : Task) → get S.tasks id ≡ Some t → get S.tasks kid ≡ None → get (insert S.tasks id u) kid ≡ None
+pub new_after : (S : State) (id kid : TaskId) (t u : Task) → get S.tasks id ≡ Some t → get S.tasks kid ≡ None → get (insert S.tasks id u) kid ≡ None
 new_after S id kid t u at none = by (id_split kid id)
   where
     by : (kid ≡ id) ⊎ (eq_by_cmp id_cmp kid id ≡ false) → get (insert S.tasks id u) kid ≡ None

@@ -10,3 +10,6 @@ pub mod Calls
 pub mod Opens
 pub mod Passes
 pub mod States
+pub mod Lasts
+pub mod Ended
+pub mod Ends

@@ -13,40 +13,40 @@ use Rattle.gr_valid.specs.Valid.{IsValid}
 
 -- Whether the task stands in scope s and hasn't ended.
 abbrev pub works_in : ℕ → Task → Bool
-works_in s t = not (has_ended t.mode) && t.scope == s
+works_in scope task = not (has_ended task.mode) && task.scope == scope
 
 -- Whether a task stands in scope s and hasn't ended.
 abbrev pub has_task : State → ℕ → Bool
-has_task S s = list_any (works_in s) (fin.values S.tasks)
+has_task state scope = list_any (works_in scope) (fin.values state.tasks)
 
 -- Whether scope s is a loop of which an index hasn't begun.
 abbrev pub has_index : State → ℕ → Bool
-has_index S s = option_map_or (λ x. range_left x.range) (slice_get S.scopes s) false
+has_index state scope = option_map_or (λ x. range_left x.range) (slice_get state.scopes scope) false
 
 -- The innermost scope that a task has opened: the one that it passes next.
-pub record IsInnermost (S : State) (s : ℕ) : Type 0 where
+pub record IsInnermost (state : State) (scope : ℕ) : Type 0 where
   pub id : TaskId
   pub task : Task
-  pub there : fin.get S.tasks id ≡ Some task
+  pub there : fin.get state.tasks id ≡ Some task
   pub below : List ℕ
-  pub opened : task.opened ≡ s ∷ below
+  pub opened : task.opened ≡ scope ∷ below
 
 -- The scope is the root, or the innermost one of a task.
 abbrev pub CanBePassed : State → ℕ → Type 0
-CanBePassed S s = (s ≡ 0) ⊎ IsInnermost S s
+CanBePassed state scope = (scope ≡ 0) ⊎ IsInnermost state scope
 
 -- The state in which a run opens is valid.
 abbrev pub OpensValid : Type 0
-OpensValid = (p : Program) (L : ℕ) → IsValid p (opening_state p L)
+OpensValid = (program : Program) (limit : ℕ) → IsValid program (opening_state program limit)
 
 -- A step of a valid state leads to a valid state.
 abbrev pub StepsValid : Type 0
-StepsValid = (p : Program) (N L : ℕ) (S T : State) (e : Entry) → IsValid p S → step p N L S e ≡ Some T → IsValid p T
+StepsValid = (program : Program) (cores limit : ℕ) (state after : State) (entry : Entry) → IsValid program state → step program cores limit state entry ≡ Some after → IsValid program after
 
 -- The state that a history leads to is valid.
 abbrev pub HistoriesValid : Type 0
-HistoriesValid = (p : Program) (N L : ℕ) (h : List Entry) (S : State) → final p N L h ≡ Some S → IsValid p S
+HistoriesValid = (program : Program) (cores limit : ℕ) (history : List Entry) (state : State) → final program cores limit history ≡ Some state → IsValid program state
 
 -- The work that is left under the root or an innermost scope is a task or an index in that scope itself.
 abbrev pub WorkIsDirect : Type 0
-WorkIsDirect = (p : Program) (S : State) (s : ℕ) → IsValid p S → CanBePassed S s → left S s ≡ (has_task S s || has_index S s)
+WorkIsDirect = (program : Program) (state : State) (scope : ℕ) → IsValid program state → CanBePassed state scope → left state scope ≡ (has_task state scope || has_index state scope)

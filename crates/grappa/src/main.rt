@@ -2,50 +2,55 @@
 //! answered. Nothing goes to standard error.
 #![tactic(auto)]
 
+ghost use Rattle.std.specs.Prelude.{◌≡◌, ◌≢◌, [], drop, IfOk, IfErr, IsErr, IsOkAnd, OnErr};
+ghost use Rattle.std.specs.IoError.{error_kind};
+ghost use Rattle.std.specs.Process.{exit_status};
+ghost use Rattle.std.specs.Vec.Iter.{into_iter_items};
+
 use gr_io::{StdSink, StdSource};
-use gr_top::top;
-use std::alloc::Global;
-use std::env;
-use std::io::{Error, ErrorKind};
+use gr_top::{RunEnd, top};
+use std::alloc::{AllocError, Global};
+use std::env::Args;
+use std::io::ErrorKind;
 use std::process::ExitCode;
-use std::rt::Env;
+use std::{env, io};
 
-/// Why there are no words.
-#[derive(Clone, Copy)]
-enum NoWords {
-    NotText,
-    Memory,
-}
-
-impl From<Error> for NoWords {
-    fn from(error: Error) -> NoWords {
-        match error.kind() {
-            ErrorKind::OutOfMemory => NoWords::Memory,
-            _ => NoWords::NotText,
-        }
+/// The words of the command line: all of the arguments but the first, which is the program's name.
+/// Arguments that are no text are taken as no words at all.
+///
+/// # Errors
+///
+/// Want of memory, for the arguments or for the words.
+fn words(alloc: Global, args: io::Result<Args>) -> Result<Vec<String>, AllocError>
+    ensures all { IfOk args (λ args.
+        IfOk result (λ words. words.items ≡ drop 1 (into_iter_items args))) }
+    ensures not_text { IfErr args (λ error. error_kind error ≢ ErrorKind.OutOfMemory
+        → IsOkAnd result (λ words. words.items ≡ [])) }
+    ensures memory { IfErr args (λ error.
+        error_kind error ≡ ErrorKind.OutOfMemory → IsErr result) }
+{
+    match args {
+        Ok(args) => args.skip(1).collect(alloc),
+        Err(error) if error.kind() == ErrorKind::OutOfMemory => Err(AllocError),
+        Err(_) => Ok(Vec::new(alloc)),
     }
 }
 
-/// The words of the command line without the program's name.
-fn words<R: Env + AllocGlobal>(rt: &R) -> Result<Vec<String>, NoWords> {
-    let mut words = Vec::new(rt.alloc());
-    for word in env::args(rt)?.skip(1) {
-        if words.push(word).is_err() {
-            return Err(NoWords::Memory);
-        }
+/// The status that the program ends with: that of the call, or 6 where memory was wanting for its
+/// words.
+fn status(end: Result<RunEnd, AllocError>) -> ExitCode
+    ensures ended { IfOk end (λ ended. exit_status result ≡ ended.status) }
+    ensures memory { OnErr end (exit_status result ≡ 6) }
+{
+    match end {
+        Ok(ended) => ExitCode::from(ended.status),
+        Err(AllocError) => ExitCode::from(6),
     }
-    Ok(words)
 }
 
 fn main(rt: HostRuntime) -> ExitCode {
-    // Words that are no text are refused as no words at all are.
-    let words = match words(&rt) {
-        Ok(words) => words,
-        Err(NoWords::NotText) => Vec::new(rt.alloc()),
-        Err(NoWords::Memory) => return ExitCode::from(6),
-    };
     let mut source = StdSource::new(rt.stdin());
     let mut sink = StdSink::new(rt.stdout());
-    let end = top(rt.alloc(), words.as_slice(), &mut source, &mut sink);
-    ExitCode::from(end.status)
+    let words = words(rt.alloc(), env::args(&rt));
+    status(words.map(|words| top(rt.alloc(), words.as_slice(), &mut source, &mut sink)))
 }

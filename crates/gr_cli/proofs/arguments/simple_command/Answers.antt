@@ -1,26 +1,27 @@
-use Rattle.std.proofs.Common.{◌∙◌, ap, codes}
-use Rattle.clap.specs.Words.{App, Text, with_rule}
-use Rattle.gr_cli.specs.Arguments.{simple_command, option, flag}
+use Rattle.std.proofs.Common.{◌≡◌, ◌∙◌, ap, ap₂, sym, false, List, [], ◌∷◌, map, fold}
+use Rattle.std.proofs.lemmas.List.Elements.{All-head, All-tail}
+use Rattle.std.proofs.lemmas.Result.{IfOk-weaker}
+use Rattle.std.specs.List.{All}
+use Rattle.clap.specs.Built.{AddsArg, AddsInTurn}
+use Rattle.clap.specs.Words.{App, app_of, rule_of, with_rule}
+use Rattle.clap.specs.declared.builder.arg.Arg.{Arg}
+use Rattle.clap.specs.declared.builder.command.Command.{Command}
+use Rattle.gr_cli.specs.Arguments.{simple_command}
+use Rattle.gr_cli.specs.ClapWords.{IsOwn}
 use Rattle.gr_cli.proofs.arguments.simple_command.Goals as goal
 
-abbrev with_option : Text → App → App
-with_option name a = with_rule a (option name)
+-- Arguments that are added in turn are the command's last ones.
+added : (arguments : List Arg) (before after : Command)
+    → AddsInTurn AddsArg before arguments after → All IsOwn arguments
+    → app_of after ≡ fold with_rule (app_of before) (map rule_of arguments)
+added [] before after same own = ap app_of (sym same)
+added (argument ∷ arguments) before after adds own =
+    let next = adds.1.shape (All-head IsOwn argument arguments own) in
+    added arguments adds.0 after adds.2 (All-tail IsOwn argument arguments own)
+    ∙ ap (λ (app : App). fold with_rule app (map rule_of arguments)) next
 
-abbrev with_flag : Text → App → App
-with_flag name a = with_rule a (flag name)
-
--- Each call adds its argument to what the calls before it made.
 pub returns : goal.returns
 unfolding simple_command
-returns c = c.in_ok-command-12.ensures
-    ∙ ap (with_flag (codes "counts")) (c.in_ok-command-11.ensures
-    ∙ ap (with_flag (codes "history")) (c.in_ok-command-10.ensures
-    ∙ ap (with_option (codes "seed")) (c.in_ok-command-9.ensures
-    ∙ ap (with_option (codes "size")) (c.in_ok-command-8.ensures
-    ∙ ap (with_option (codes "kind")) (c.in_ok-command-7.ensures
-    ∙ ap (with_option (codes "events")) (c.in_ok-command-6.ensures
-    ∙ ap (with_option (codes "slice")) (c.in_ok-command-5.ensures
-    ∙ ap (with_option (codes "steps")) (c.in_ok-command-4.ensures
-    ∙ ap (with_option (codes "limit")) (c.in_ok-command-3.ensures
-    ∙ ap (with_option (codes "block")) (c.in_ok-command-2.ensures
-    ∙ ap (with_option (codes "cores")) (c.in_ok-command.ensures)))))))))))
+returns c = IfOk-weaker _ _ _ (λ command adds.
+    added _ _ command adds c.in_ok-arguments.ensures.own
+    ∙ ap₂ (fold with_rule) c.bare_command.ensures c.in_ok-arguments.ensures.rules) c.args-2.ensures

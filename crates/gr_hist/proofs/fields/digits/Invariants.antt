@@ -1,5 +1,5 @@
 use Rattle.std.proofs.Common.{◌≡◌, drop}
-use Rattle.gr_hist.specs.Reading.{digits_after}
+use Rattle.gr_hist.specs.FieldWords.{digits_after}
 use Rattle.gr_hist.proofs.fields.digits.Given as goal
 
 abbrev pub invariant-loop-byte : goal.invariant-loop-byte

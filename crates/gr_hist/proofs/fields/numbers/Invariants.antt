@@ -1,6 +1,7 @@
 use Rattle.std.proofs.Common.{◌≡◌, ◌++◌, drop, map, option_map}
-use Rattle.gr_hist.specs.Reading.{numbers_of}
+use Rattle.gr_hist.specs.FieldWords.{numbers_of}
 use Rattle.gr_hist.proofs.fields.numbers.Given as goal
 
-abbrev pub invariant-loop-part : goal.invariant-loop-part
-invariant-loop-part l = option_map (λ ns. l.words ++ ns) (numbers_of (map (λ x. x.now) (drop l.part-index l.parts))) ≡ numbers_of (map (λ x. x.now) l.parts)
+abbrev pub invariant-loop-field : goal.invariant-loop-field
+invariant-loop-field l =
+    option_map (λ numbers. l.words ++ numbers) (numbers_of (map (λ field. field.now) (drop l.field-index l.fields))) ≡ numbers_of (map (λ field. field.now) l.fields)

@@ -1,5 +1,5 @@
 use Rattle.std.proofs.Common.{◌≡◌, ◌++◌, decimal, drop, map}
-use Rattle.gr_hist.specs.Written.{trail}
+use Rattle.gr_hist.specs.WritingWords.{trail}
 use Rattle.gr_hist.proofs.putting.put_numbers.Given as goal
 
 abbrev pub invariant-loop-number : goal.invariant-loop-number

@@ -1,7 +1,7 @@
 use Rattle.std.proofs.Common.{rules, arith, ◌∙◌, sym, subst, ap, List, append-nil, Ok, []}
 use Rattle.gr_hist.specs.declared.text.NamedEntry.{NamedEntry}
 use Rattle.gr_hist.specs.Grammar.{Lines, ReadsLines, with_front}
-use Rattle.gr_hist.specs.Lines.{SaysLine}
+use Rattle.gr_hist.specs.LineWords.{SaysLine}
 use Rattle.gr_hist.proofs.Readings.{after, after_push, bad_step, end_step, line_step, shorter}
 use Rattle.gr_hist.proofs.reading.entries.Goals as goal
 

@@ -6,7 +6,7 @@ use Rattle.gr_hist.proofs.reading.entries.Given as goal
 abbrev pub invariant-each : goal.invariant-each
 invariant-each l = record {
   place : l.line + length l.rest ≤ length l.fn.text + 2;
-  reads : (r : Lines) → ReadsLines l.line l.rest r → ReadsLines 2 l.fn.text (after l.entries r);
+  reads : (lines : Lines) → ReadsLines l.line l.rest lines → ReadsLines 2 l.fn.text (after l.entries lines);
 }
 
 abbrev pub decreases-each : goal.decreases-each

@@ -1,5 +1,5 @@
 use Rattle.std.proofs.Common.{rules}
-use Rattle.gr_hist.specs.Lines.{IsNoHeader}
+use Rattle.gr_hist.specs.LineWords.{IsNoHeader}
 use Rattle.gr_hist.proofs.LineBytes.{at_header, at_no_first, at_no_header}
 use Rattle.gr_hist.proofs.reading.header_at.Goals as goal
 

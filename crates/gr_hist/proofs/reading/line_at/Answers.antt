@@ -1,5 +1,5 @@
 use Rattle.std.proofs.Common.{rules}
-use Rattle.gr_hist.specs.Lines.{IsNoLine}
+use Rattle.gr_hist.specs.LineWords.{IsNoLine}
 use Rattle.gr_hist.proofs.LineBytes.{at_line, at_no_feed, at_no_line}
 use Rattle.gr_hist.proofs.reading.line_at.Goals as goal
 

@@ -1,6 +1,6 @@
 use Rattle.std.proofs.Common.{rules, sym, subst, Ok}
 use Rattle.gr_hist.specs.Grammar.{IsSameError, SaysError}
-use Rattle.gr_hist.specs.Lines.{error_at}
+use Rattle.gr_hist.specs.LineWords.{error_at}
 use Rattle.gr_hist.proofs.Readings.{headed_error, headed_ok, headless_error, reads_once, same_error}
 use Rattle.gr_hist.proofs.reading.read.Goals as goal
 

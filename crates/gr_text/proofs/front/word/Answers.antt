@@ -1,14 +1,15 @@
 use Rattle.std.proofs.Common.{◌<◌, arith}
 use Rattle.std.proofs.lemmas.List.Sums.{prefix_len-le-length}
 use Rattle.std.specs.List.{prefix_len}
-use Rattle.gr_syntax.specs.Names.{is_word, most_name}
+use Rattle.gr_syntax.specs.declared.limits.TheConstants.{MAX_NAME}
+use Rattle.gr_syntax.specs.Names.{is_word}
 use Rattle.gr_text.proofs.Found.{keyword_found, name_found}
 use Rattle.gr_text.proofs.Longest.{long_front}
 use Rattle.gr_text.proofs.front.word.Goals as goal
 
-pub returns-then-length-gt-MOST_NAME : goal.returns-then-length-gt-MOST_NAME
-returns-then-length-gt-MOST_NAME c =
-    let long : most_name < prefix_len is_word c.args.text.now = omega (arith, c.word_len-length.ensures) in
+pub returns-then-length-gt-MAX_NAME : goal.returns-then-length-gt-MAX_NAME
+returns-then-length-gt-MAX_NAME c =
+    let long : MAX_NAME < prefix_len is_word c.args.text.now = omega (arith, c.word_len-length.ensures) in
     (prefix_len is_word c.args.text.now, long_front c.args.text.now c.requires long, long)
 
 pub upto-requires : goal.upto-requires

@@ -1,7 +1,7 @@
 use Rattle.std.proofs.Common.{◌≡◌, sym, ap, ◌∙◌, subst}
 use Rattle.gr_top.specs.Due.{Reading, accepted}
 use Rattle.gr_top.specs.Readings.{ReadsAs}
-use Rattle.gr_top.specs.Views.{reading_of}
+use Rattle.gr_top.specs.AnswerView.{reading_of}
 use Rattle.gr_top.proofs.Namings.{accepted_named}
 use Rattle.gr_top.proofs.engine.run_text.Goals as goal
 

@@ -2,7 +2,7 @@ use Rattle.std.proofs.Common.{sym, subst}
 use Rattle.gr_parse.specs.declared.fault.ParseError.{ParseError}
 use Rattle.gr_parse.specs.Grammar.{Says}
 use Rattle.gr_top.specs.Readings.{ReadsAs}
-use Rattle.gr_top.specs.Views.{reading_of}
+use Rattle.gr_top.specs.AnswerView.{reading_of}
 use Rattle.gr_top.specs.declared.reading.TextRead.{TextRead}
 use Rattle.gr_top.proofs.reading.grammar_fault.Goals as goal
 

@@ -6,7 +6,7 @@ use Rattle.gr_text.specs.declared.fault.TextError.TheVariants as faults
 use Rattle.gr_text.specs.Text.{Reads, IsFaultOf}
 use Rattle.gr_top.specs.Due.{refused}
 use Rattle.gr_top.specs.Readings.{ReadsAs}
-use Rattle.gr_top.specs.Views.{reading_of}
+use Rattle.gr_top.specs.AnswerView.{reading_of}
 use Rattle.gr_top.specs.declared.reading.TextRead.{TextRead}
 use Rattle.gr_top.proofs.TextOnce.{bad_within, wide_within, long_within}
 use Rattle.gr_top.proofs.reading.token_fault.Goals as goal

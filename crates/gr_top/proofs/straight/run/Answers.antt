@@ -3,7 +3,7 @@ use Rattle.gr_lang.specs.declared.action.Entry.{Entry}
 use Rattle.gr_lang.specs.States.{main_id}
 use Rattle.gr_lang.specs.Histories.{legal, complete}
 use Rattle.gr_plain.specs.Held.{entry_due}
-use Rattle.gr_top.specs.Runs.{Comes}
+use Rattle.gr_top.specs.RunWords.{Comes}
 use Rattle.gr_top.proofs.Runs.{run_begins, run_goes, never_refused, run_over, run_stopped}
 use Rattle.gr_top.proofs.straight.run.Goals as goal
 

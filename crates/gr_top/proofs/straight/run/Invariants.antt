@@ -1,5 +1,5 @@
-use Rattle.gr_top.specs.Alone.{work_left}
-use Rattle.gr_top.specs.Runs.{Comes}
+use Rattle.gr_top.specs.AloneWords.{work_left}
+use Rattle.gr_top.specs.RunWords.{Comes}
 use Rattle.gr_top.proofs.straight.run.Given as goal
 
 abbrev pub invariant-entries : goal.invariant-entries

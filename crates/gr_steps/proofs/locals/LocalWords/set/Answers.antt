@@ -1,9 +1,8 @@
-use Rattle.std.proofs.Common.{◌≡◌, length, slice_set, slice_index_or, ◌∙◌, sym, ap, arith, length-set}
+use Rattle.std.proofs.Common.{◌≡◌, length, ◌∙◌, sym, ap, arith, length-set}
 use Rattle.std.proofs.lemmas.List.{with_items_is}
 use Rattle.gr_steps.proofs.Hits.{set_word-hit}
 use Rattle.gr_lang.specs.Locals.{set_word}
 use Rattle.gr_steps.specs.LocalView.{locals_of}
-use Rattle.gr_steps.specs.declared.locals.Local.{Local}
 use Rattle.gr_steps.proofs.locals.LocalWords.set.Goals as goal
 
 pub returns-then-is : goal.returns-then-is

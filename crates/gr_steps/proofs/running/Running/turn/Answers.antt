@@ -1,9 +1,9 @@
-use Rattle.std.proofs.Common.{◌≡◌, ℕ, List, Option, ◌∷◌, ◌∙◌, sym, ap, refl}
+use Rattle.std.proofs.Common.{ℕ, List, Option, ◌∷◌, ◌∙◌, sym, ap, refl}
 use Rattle.gr_lang.specs.declared.action.Action.{Action}
 use Rattle.gr_lang.specs.Expressions.{values}
 use Rattle.gr_lang.specs.Next.{run, acts, print_action}
-use Rattle.gr_steps.specs.Ranges.{range_words}
-use Rattle.gr_steps.specs.Turns.{tail_of}
+use Rattle.gr_steps.specs.RangeWords.{range_words}
+use Rattle.gr_steps.specs.TurnWords.{tail_of}
 use Rattle.gr_steps.proofs.Looks.{look_print, look_forall, looped}
 use Rattle.gr_steps.proofs.running.Running.turn.Goals as goal
 
