@@ -1,6 +1,7 @@
 //! The calls of a row.
-ghost use Rattle.std.specs.Prelude.{◌≤◌, ◌^◌};
+ghost use Rattle.std.specs.Prelude.{◌≤◌};
 
+use gr_syntax::MAX_WORDS;
 use serde_json::Value;
 use std::alloc::{AllocError, Global};
 
@@ -43,29 +44,42 @@ impl Call {
     }
 }
 
-/// The calls of a row, `do`; none where it has no such list of texts.
-pub fn calls_of(alloc: Global, row: &Value) -> Result<Option<Vec<Call>>, AllocError> {
+/// The calls of a row, `do`, as texts; none where it has no such list.
+pub fn lines_of<'a>(alloc: Global, row: &'a Value) -> Result<Option<Vec<&'a str>>, AllocError> {
     let Some(items) = row.get("do").and_then(Value::as_array) else {
         return Ok(None);
     };
-    let mut calls = Vec::new(alloc);
+    let mut lines = Vec::new(alloc);
     for item in items.as_slice() {
-        let Some(text) = item.as_str() else {
+        let Some(line) = item.as_str() else {
             return Ok(None);
         };
-        calls.push(Call::read(alloc, text)?)?;
+        lines.push(line)?;
+    }
+    Ok(Some(lines))
+}
+
+/// The calls of a row; none where it has no list of them.
+pub fn calls_of(alloc: Global, row: &Value) -> Result<Option<Vec<Call>>, AllocError> {
+    let Some(lines) = lines_of(alloc, row)? else {
+        return Ok(None);
+    };
+    let mut calls = Vec::new(alloc);
+    for line in lines.as_slice() {
+        calls.push(Call::read(alloc, line)?)?;
     }
     Ok(Some(calls))
 }
 
-/// The number of this name in a row, at most 2^24; 0 where there is none.
+/// The number of this name in a row, or the greatest number of words of a program, whichever is less; 0
+/// where there is none.
 pub fn size_in(row: &Value, name: &str) -> u64
-    ensures { result ≤ 2 ^ 24 }
+    ensures { result ≤ MAX_WORDS }
 {
     row.get(name)
         .and_then(Value::as_u64)
         .unwrap_or(0)
-        .min(1 << 24)
+        .min(MAX_WORDS)
 }
 
 /// What is answered where there is no call of that name.

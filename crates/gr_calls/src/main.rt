@@ -7,6 +7,7 @@
 
 mod alloc_rows;
 mod call;
+mod cli_rows;
 mod memory_rows;
 
 use serde_json::Value;
@@ -19,6 +20,7 @@ fn answers(alloc: Global, row: &Value) -> Result<Option<Vec<String>>, AllocError
         Some("blocks") => alloc_rows::blocks(alloc, row),
         Some("memory") => memory_rows::memory(alloc, row),
         Some("keys") => memory_rows::keys(alloc, row),
+        Some("options") => cli_rows::options(alloc, row),
         _ => Ok(None),
     }
 }

@@ -1,14 +1,14 @@
 //! Rows of plain memories. A row `memory` has an array of `array` words, a set, a map, a vector, and behind the
 //! array a heap of `heap` words. Its calls name the object, as `write array 1 7`, and the reducer before it,
 //! as `merge add map 3 4`. An answer is the two words of the reply. A row `keys` has a set of words.
-ghost use Rattle.std.specs.Prelude.{◌≤◌, ◌^◌, All, IfOk};
+ghost use Rattle.std.specs.Prelude.{◌≤◌, All, IfOk};
 ghost use Rattle.gr_memory.specs.Ranges.{LiesIn};
 
 use crate::call::{Call, calls_of, no_such_call, size_in};
 use gr_accept::{operation_of, reducer_of};
 use gr_lang::{Op, Reply, op_of};
 use gr_memory::{Keys, Memory, Thing};
-use gr_syntax::HEAP;
+use gr_syntax::{HEAP, MAX_WORDS};
 use serde_json::Value;
 use std::alloc::{AllocError, Global};
 
@@ -54,8 +54,8 @@ fn things(alloc: Global, array: u64, total: u64) -> Result<Vec<Thing>, AllocErro
 }
 
 fn new_memory(alloc: Global, array: u64, heap: u64) -> Result<Memory, AllocError>
-    requires array { array ≤ 2 ^ 24 }
-    requires heap { heap ≤ 2 ^ 24 }
+    requires array { array ≤ MAX_WORDS }
+    requires heap { heap ≤ MAX_WORDS }
 {
     let total = array + heap;
     let words = vec![in alloc; 0; total as usize]?;
