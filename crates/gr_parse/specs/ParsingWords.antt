@@ -17,8 +17,12 @@ use Rattle.gr_text.specs.declared.token.Keyword.TheVariants as k
 use Rattle.gr_text.specs.declared.token.Sign.TheVariants as s
 use Rattle.gr_parse.specs.declared.fault.Stop.{Stop}
 use Rattle.gr_parse.specs.declared.fault.Stop.TheVariants as stops
-use Rattle.gr_parse.specs.Tok.{Tok, is_sign, is_key, name_of, heap_of}
-pub use Rattle.gr_parse.specs.Operands.{Toks, max_nesting, max_signs, loosest, plenty, name, number, semicolon, Counted, negation, two, atom, comparing, comparison, group, unary, expr, expr_from, no_room, args, some_name, reducer, call_of, operation, method, call}
+use Rattle.gr_parse.specs.Tok.{Tok, is_sign}
+use Rattle.gr_parse.specs.TokWords.{is_key, name_of, heap_of}
+pub use Rattle.gr_parse.specs.Tok.{Toks}
+pub use Rattle.gr_parse.specs.declared.limits.TheConstants.{MAX_NESTING, MAX_SIGNS, LOOSEST}
+pub use Rattle.gr_parse.specs.OperandsWords.{plenty, name, number, semicolon, Counted, negation, two, atom, comparing, comparison, group, unary, expr, expr_from, no_room, args, some_name, reducer, operation, method, call}
+pub use Rattle.gr_parse.specs.Grammar.{call_of}
 
 -- ---- statements
 
@@ -155,7 +159,7 @@ unfoldable pub params : ℕ → Parser Tok (List Name)
 params turns = expect (is_sign s.LeftParen) >> enclosed (is_sign s.RightParen) (is_sign s.Comma) name turns
 
 unfoldable pub task : ℕ → Parser Tok Item
-task turns = name >>= λ n. params turns >>= λ ps. block turns max_nesting >>= λ xs. pure (items.Task n ps xs)
+task turns = name >>= λ n. params turns >>= λ ps. block turns MAX_NESTING >>= λ xs. pure (items.Task n ps xs)
 
 unfoldable pub key_item : ℕ → Parser Tok Item
 key_item turns = either (is_key k.Array) array

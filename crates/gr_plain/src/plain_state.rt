@@ -1,16 +1,16 @@
 //! The plain memory with its tasks and scopes, and what each entry of a history does to them.
-ghost use Rattle.std.specs.Prelude.{◌≡◌, ◌∷◌, ◌++◌, [], IfOk, IfSome, None, OnErr, OnOk, Some, length};
+ghost use Rattle.std.specs.Prelude.{◌≡◌, ◌∷◌, ◌++◌, [], IfOk, OnOk, Some, length};
 ghost use Rattle.std.specs.FinMap as fin;
 ghost use Rattle.std.specs.Option.{option_map, option_and_then};
 ghost use Rattle.gr_lang.specs.Objects.{call};
-ghost use Rattle.gr_lang.specs.Effects.{nothing};
-ghost use Rattle.gr_lang.specs.States.{at_loop, child as child_task, innermost, left as work_left, opening_state};
-ghost use Rattle.gr_lang.specs.Steps.{goes_on as gone_on, is_new as is_new_id, set_task};
-ghost use Rattle.gr_plain.specs.Held.{begin_args, due_begin, due_call, due_end, due_finish, due_loop, due_pass, due_spawn, due_trap, entry_due, is_blocked, loop_scope, stepped, with_state};
+ghost use Rattle.gr_lang.specs.States.{child as child_task, innermost, left as work_left};
+ghost use Rattle.gr_lang.specs.Steps.{is_new as is_new_id};
+ghost use Rattle.gr_plain.specs.Held.{entry_due, opening_held, stepped};
+ghost use Rattle.gr_plain.specs.HeldWords.{IsRefused, after_turn, new_scope, with_objects, with_scope, with_scopes, with_tasks};
+ghost use Rattle.gr_plain.specs.DueWords.{begin_args, due_begin, due_call, due_end, due_finish, due_loop, due_pass, due_spawn, due_trap, is_blocked, loop_scope};
 ghost use Rattle.gr_plain.specs.ScopeView.{begun_at, range_of};
-ghost use Rattle.gr_plain.specs.Counts.{change_of};
-ghost use Rattle.gr_plain.specs.StackView.{top_of, under_top};
-ghost use Rattle.gr_plain.specs.TaskView.{mode_of};
+ghost use Rattle.gr_plain.specs.CountWords.{change_of};
+ghost use Rattle.gr_plain.specs.StackView.{top_of};
 ghost use Rattle.gr_valid.specs.Work.{has_index};
 
 use crate::counts::Change;
@@ -18,14 +18,12 @@ use crate::dues::{call_in, has_core, is_arrive, is_end, is_finish, is_loop, is_s
 use crate::opening::open_memory;
 use crate::plain::StepError;
 use crate::scopes::{RangeRow, ScopeRow, begin};
-use crate::tasks::{Mode, Row, Tasks, no_reply};
+use crate::tasks::{Row, Tasks, Turn};
 use gr_accept::Accepted;
-use gr_lang::{Action, Entry, How, Op, Reply, TaskId, TrapKind};
-use gr_lang::Words;
+use gr_lang::{Action, Entry, How, Op, Reply, TaskId, TrapKind, Words};
+use gr_memory::{Keys, Memory};
+use gr_steps::Table;
 use gr_syntax::Text;
-use gr_memory::memory::Memory;
-use gr_memory::parts::Keys;
-use gr_steps::table::Table;
 use std::alloc::{AllocError, Global};
 use std::marker::Model;
 
@@ -34,7 +32,7 @@ const MAIN: TaskId = TaskId { core: 0, number: 0 };
 
 /// One plain memory with the tasks and scopes of a program.
 #[derive(Drop)]
-pub struct Machine<'a> {
+pub struct PlainState<'a> {
     table: Table<'a>,
     cores: u64,
     steps: u64,
@@ -44,7 +42,7 @@ pub struct Machine<'a> {
     passed: bool,
 }
 
-impl<'a> Model for Machine<'a> {
+impl<'a> Model for PlainState<'a> {
     ghost use Rattle.gr_plain.specs.Held.{Held};
     ghost use Rattle.std.specs.Coded.{codes, coded_ℕ};
     ghost use Rattle.std.specs.FinMap as fin;
@@ -57,22 +55,22 @@ impl<'a> Model for Machine<'a> {
 
     ghost coded = { Prim.hlevel (codes, stmt.the_row.coded, set.code {R = nat_cmp} coded_ℕ, fin.code {R = nat_cmp} coded_ℕ coded_ℕ, fin.code {X = Task} {R = id_cmp} (Prim.hlevel codes) (Prim.hlevel (codes, stmt.the_row.coded))) };
 
-    ghost use Rattle.gr_plain.specs.MachineView.{held_of};
+    ghost use Rattle.gr_plain.specs.PlainStateView.{held_of};
 
     ghost view = { held_of };
 }
 
-impl<'a> Machine<'a> {
-    /// The state before the first entry: the opening objects, and `main` at its first action. `steps` is
-    /// the limit of pure steps between two actions.
+impl<'a> PlainState<'a> {
+    /// The state before the first entry: the opening objects, and `main` at its first action.
+    /// `steps` is the limit of pure steps between two actions.
     #[tactic(auto, using(crate::proofs::Sizes::heap_small))]
     pub fn start(
         alloc: Global,
         program: &'a Accepted,
         cores: u64,
         steps: u64,
-    ) -> Result<Machine<'a>, AllocError>
-        ensures { IfOk result (λ machine. machine ≡ record { program = program.now; cores = cores; steps = steps; state = opening_state program.now steps }) }
+    ) -> Result<PlainState<'a>, AllocError>
+        ensures { IfOk result (λ state. state ≡ opening_held program.now cores steps) }
     {
         let text = program.program();
         let (memory, heap) = open_memory(alloc, text)?;
@@ -88,7 +86,7 @@ impl<'a> Machine<'a> {
             parent: 0,
             range: None,
         })?;
-        Ok(Machine {
+        Ok(PlainState {
             table,
             cores,
             steps,
@@ -99,39 +97,16 @@ impl<'a> Machine<'a> {
         })
     }
 
-    fn goes_on(&mut self, alloc: Global, id: TaskId, reply: Reply) -> Result<(), AllocError>
-        ensures { OnOk result (IfSome (fin.get self.old.state.tasks id) (λ t. self.new ≡ with_state self.old (set_task self.old.state id (gone_on self.old.program self.old.steps t reply)))) }
+    /// The task of this id takes a turn; where there is none, nothing changes.
+    fn turn(&mut self, alloc: Global, id: TaskId, turn: Turn) -> Result<(), AllocError>
+        ensures { OnOk result (self.new ≡ after_turn self.old id turn) }
     {
-        self.tasks
-            .goes_on(alloc, &self.table, self.steps, id, reply)
-    }
-
-    fn enters(&mut self, alloc: Global, id: TaskId, scope: u64) -> Result<(), AllocError>
-        ensures { OnOk result (IfSome (fin.get self.old.state.tasks id) (λ t. self.new ≡ with_state self.old (set_task self.old.state id (record (gone_on self.old.program self.old.steps t nothing) { opened = scope ∷ t.opened })))) }
-    {
-        self.tasks.enters(alloc, &self.table, self.steps, id, scope)
-    }
-
-    fn leaves(&mut self, alloc: Global, id: TaskId) -> Result<(), AllocError>
-        ensures { OnOk result (IfSome (fin.get self.old.state.tasks id) (λ t. self.new ≡ with_state self.old (set_task self.old.state id (record (gone_on self.old.program self.old.steps t nothing) { opened = under_top t.opened })))) }
-    {
-        self.tasks.leaves(alloc, &self.table, self.steps, id)
-    }
-
-    fn waits(&mut self, id: TaskId, scope: u64) -> Result<(), AllocError>
-        ensures { OnOk result (IfSome (fin.get self.old.state.tasks id) (λ t. self.new ≡ with_state self.old (set_task self.old.state id (record t { mode = at_loop; opened = scope ∷ t.opened })))) }
-    {
-        self.tasks.waits(id, scope)
-    }
-
-    fn set_mode(&mut self, id: TaskId, mode: Mode) -> Result<(), AllocError>
-        ensures { OnOk result (IfSome (fin.get self.old.state.tasks id) (λ t. self.new ≡ with_state self.old (set_task self.old.state id (record t { mode = mode_of mode })))) }
-    {
-        self.tasks.set_mode(id, mode)
+        self.tasks.turn(alloc, &self.table, self.steps, id, turn)
     }
 
     fn put(&mut self, id: TaskId, row: Row<'a>) -> Result<(), AllocError>
-        ensures { OnOk result (self.new ≡ with_state self.old (set_task self.old.state id row.entry)) }
+        ensures { OnOk result (self.new
+            ≡ with_tasks self.old (fin.insert self.old.state.tasks id row.entry)) }
     {
         self.tasks.put(id, row)
     }
@@ -142,7 +117,8 @@ impl<'a> Machine<'a> {
         parent: u64,
         range: Option<RangeRow>,
     ) -> Result<(), AllocError>
-        ensures { OnOk result (self.new ≡ with_state self.old (record self.old.state { scopes = self.old.state.scopes ++ record { owner = Some owner; parent = parent; range = option_map range_of range } ∷ [] })) }
+        ensures { OnOk result (self.new
+            ≡ with_scope self.old (new_scope owner parent (option_map range_of range))) }
     {
         self.scopes.push(ScopeRow {
             owner: Some(owner),
@@ -153,13 +129,15 @@ impl<'a> Machine<'a> {
     }
 
     fn begin_index(&mut self, scope: u64, index: u64) -> Result<(), AllocError>
-        ensures { OnOk result (self.new ≡ with_state self.old (record self.old.state { scopes = begun_at self.old.state.scopes scope index })) }
+        ensures { OnOk result (self.new
+            ≡ with_scopes self.old (begun_at self.old.state.scopes scope index)) }
     {
         begin(&mut self.scopes, scope, index)
     }
 
     fn apply(&mut self, op: Op) -> Result<(), AllocError>
-        ensures { OnOk result (self.new ≡ with_state self.old (record self.old.state { objects = (call op self.old.state.objects).0 })) }
+        ensures { OnOk result (self.new
+            ≡ with_objects self.old (call op self.old.state.objects).0) }
     {
         self.memory.apply(op)
     }
@@ -189,7 +167,8 @@ impl<'a> Machine<'a> {
         target: u64,
         args: &Words,
     ) -> Result<Row<'a>, AllocError>
-        ensures { IfOk result (λ row. row ≡ child_task self.now.program self.now.steps scope target args.now) }
+        ensures { IfOk result (λ row. row
+            ≡ child_task self.now.program self.now.steps scope target args.now) }
     {
         Row::start(
             alloc,
@@ -219,7 +198,7 @@ impl<'a> Machine<'a> {
     }
 
     fn scope(&self, id: TaskId) -> Option<u64>
-        ensures { result ≡ option_map (λ t. t.scope) (fin.get self.now.state.tasks id) }
+        ensures { result ≡ option_map (λ task. task.scope) (fin.get self.now.state.tasks id) }
     {
         let row = self.tasks.get(id)?;
         Some(row.scope())
@@ -233,7 +212,8 @@ impl<'a> Machine<'a> {
     }
 
     fn opened(&self, id: TaskId) -> Option<u64>
-        ensures { result ≡ option_and_then (λ t. top_of t.opened) (fin.get self.now.state.tasks id) }
+        ensures { result
+            ≡ option_and_then (λ task. top_of task.opened) (fin.get self.now.state.tasks id) }
     {
         let row = self.tasks.get(id)?;
         row.opened()
@@ -254,24 +234,14 @@ impl<'a> Machine<'a> {
         ensures { result ≡ due_spawn self.now.state id how target args.now }
     {
         let row = self.tasks.get(id)?;
-        let is_due = is_spawn(row.action(), how, target, args);
-        if row.is_going() && is_due {
-            Some(row.innermost())
-        } else {
-            None
-        }
+        row.scope_if(is_spawn(row.action(), how, target, args))
     }
 
     fn finishes(&self, id: TaskId) -> Option<u64>
         ensures { result ≡ due_finish self.now.state id }
     {
         let row = self.tasks.get(id)?;
-        let is_due = is_finish(row.action());
-        if row.is_going() && is_due {
-            Some(row.innermost())
-        } else {
-            None
-        }
+        row.scope_if(is_finish(row.action()))
     }
 
     fn loops(
@@ -286,12 +256,7 @@ impl<'a> Machine<'a> {
         ensures { result ≡ due_loop self.now.state id lo hi grain target args.now }
     {
         let row = self.tasks.get(id)?;
-        let is_due = is_loop(row.action(), lo, hi, grain, target, args);
-        if row.is_going() && is_due {
-            Some(row.innermost())
-        } else {
-            None
-        }
+        row.scope_if(is_loop(row.action(), lo, hi, grain, target, args))
     }
 
     fn loop_scope(&self, owner: TaskId) -> Option<u64>
@@ -350,12 +315,13 @@ impl<'a> Machine<'a> {
 
     fn call(&mut self, alloc: Global, id: TaskId, op: Op, reply: Reply) -> Result<(), StepError>
         ensures ok { OnOk result (stepped self.old (Entry.Call id op reply) ≡ Some self.new) }
-        ensures not_legal { result ≡ Err StepError.NotLegal → (stepped self.old (Entry.Call id op reply) ≡ None) × (self.new ≡ self.old) }
+        ensures not_legal { result ≡ Err StepError.NotLegal
+            → IsRefused self.old (Entry.Call id op reply) self.new }
     {
         let Some(due) = self.due(id) else {
             return Err(StepError::NotLegal);
         };
-        let is_due = due.is(&op);
+        let is_due = due.is(op);
         if !is_due {
             return Err(StepError::NotLegal);
         }
@@ -364,7 +330,7 @@ impl<'a> Machine<'a> {
             return Err(StepError::NotLegal);
         }
         self.apply(op)?;
-        self.goes_on(alloc, id, reply)?;
+        self.turn(alloc, id, Turn::GoesOn { reply })?;
         Ok(())
     }
 
@@ -375,10 +341,12 @@ impl<'a> Machine<'a> {
         how: How,
         target: u64,
         args: &Words,
-        kid: TaskId,
+        child: TaskId,
     ) -> Result<(), StepError>
-        ensures ok { OnOk result (stepped self.old (Entry.Spawn id how target args.now kid) ≡ Some self.new) }
-        ensures not_legal { result ≡ Err StepError.NotLegal → (stepped self.old (Entry.Spawn id how target args.now kid) ≡ None) × (self.new ≡ self.old) }
+        ensures ok { OnOk result
+            (stepped self.old (Entry.Spawn id how target args.now child) ≡ Some self.new) }
+        ensures not_legal { result ≡ Err StepError.NotLegal
+            → IsRefused self.old (Entry.Spawn id how target args.now child) self.new }
     {
         let Some(scope) = self.spawns(id, how, target, args) else {
             return Err(StepError::NotLegal);
@@ -387,25 +355,27 @@ impl<'a> Machine<'a> {
         if !is_there {
             return Err(StepError::NotLegal);
         }
-        let is_new = self.is_new(kid);
+        let is_new = self.is_new(child);
         if !is_new {
             return Err(StepError::NotLegal);
         }
-        let child = self.child(alloc, scope, target, args)?;
-        self.goes_on(alloc, id, no_reply())?;
-        self.put(kid, child)?;
+        let row = self.child(alloc, scope, target, args)?;
+        let reply = Reply::nothing();
+        self.turn(alloc, id, Turn::GoesOn { reply })?;
+        self.put(child, row)?;
         Ok(())
     }
 
     fn finish(&mut self, alloc: Global, id: TaskId) -> Result<(), StepError>
         ensures ok { OnOk result (stepped self.old (Entry.Finish id) ≡ Some self.new) }
-        ensures not_legal { result ≡ Err StepError.NotLegal → (stepped self.old (Entry.Finish id) ≡ None) × (self.new ≡ self.old) }
+        ensures not_legal { result ≡ Err StepError.NotLegal
+            → IsRefused self.old (Entry.Finish id) self.new }
     {
         let Some(parent) = self.finishes(id) else {
             return Err(StepError::NotLegal);
         };
         let scope = self.scope_count();
-        self.enters(alloc, id, scope)?;
+        self.turn(alloc, id, Turn::Enters { scope })?;
         self.open_scope(id, parent, None)?;
         Ok(())
     }
@@ -420,8 +390,10 @@ impl<'a> Machine<'a> {
         target: u64,
         args: &Words,
     ) -> Result<(), StepError>
-        ensures ok { OnOk result (stepped self.old (Entry.Loop id lo hi grain target args.now) ≡ Some self.new) }
-        ensures not_legal { result ≡ Err StepError.NotLegal → (stepped self.old (Entry.Loop id lo hi grain target args.now) ≡ None) × (self.new ≡ self.old) }
+        ensures ok { OnOk result
+            (stepped self.old (Entry.Loop id lo hi grain target args.now) ≡ Some self.new) }
+        ensures not_legal { result ≡ Err StepError.NotLegal
+            → IsRefused self.old (Entry.Loop id lo hi grain target args.now) self.new }
     {
         let Some(parent) = self.loops(id, lo, hi, grain, target, args) else {
             return Err(StepError::NotLegal);
@@ -434,7 +406,7 @@ impl<'a> Machine<'a> {
             begun: Keys::new(alloc),
         };
         let scope = self.scope_count();
-        self.waits(id, scope)?;
+        self.turn(alloc, id, Turn::Waits { scope })?;
         self.open_scope(id, parent, Some(range))?;
         Ok(())
     }
@@ -444,10 +416,12 @@ impl<'a> Machine<'a> {
         alloc: Global,
         owner: TaskId,
         index: u64,
-        kid: TaskId,
+        child: TaskId,
     ) -> Result<(), StepError>
-        ensures ok { OnOk result (stepped self.old (Entry.Begin owner index kid) ≡ Some self.new) }
-        ensures not_legal { result ≡ Err StepError.NotLegal → (stepped self.old (Entry.Begin owner index kid) ≡ None) × (self.new ≡ self.old) }
+        ensures ok { OnOk result
+            (stepped self.old (Entry.Begin owner index child) ≡ Some self.new) }
+        ensures not_legal { result ≡ Err StepError.NotLegal
+            → IsRefused self.old (Entry.Begin owner index child) self.new }
     {
         let Some(scope) = self.loop_scope(owner) else {
             return Err(StepError::NotLegal);
@@ -455,13 +429,13 @@ impl<'a> Machine<'a> {
         let Some(target) = self.begins(scope, index) else {
             return Err(StepError::NotLegal);
         };
-        let is_new = self.is_new(kid);
+        let is_new = self.is_new(child);
         if !is_new {
             return Err(StepError::NotLegal);
         }
         let args = self.begin_args(alloc, scope, index)?;
-        let child = self.child(alloc, scope, target, &args)?;
-        self.put(kid, child)?;
+        let row = self.child(alloc, scope, target, &args)?;
+        self.put(child, row)?;
         self.begin_index(scope, index)?;
         Ok(())
     }
@@ -469,43 +443,47 @@ impl<'a> Machine<'a> {
     fn pass(&mut self, alloc: Global, id: TaskId, is_left: bool) -> Result<(), StepError>
         requires { is_left ≡ is_blocked self.old.state (Entry.Pass id) }
         ensures ok { OnOk result (stepped self.old (Entry.Pass id) ≡ Some self.new) }
-        ensures not_legal { result ≡ Err StepError.NotLegal → (stepped self.old (Entry.Pass id) ≡ None) × (self.new ≡ self.old) }
+        ensures not_legal { result ≡ Err StepError.NotLegal
+            → IsRefused self.old (Entry.Pass id) self.new }
     {
         if self.passes(id).is_none() || is_left {
             return Err(StepError::NotLegal);
         }
-        self.leaves(alloc, id)?;
+        self.turn(alloc, id, Turn::Leaves)?;
         Ok(())
     }
 
-    fn end(&mut self, id: TaskId) -> Result<(), StepError>
+    fn end(&mut self, alloc: Global, id: TaskId) -> Result<(), StepError>
         ensures ok { OnOk result (stepped self.old (Entry.End id) ≡ Some self.new) }
-        ensures not_legal { result ≡ Err StepError.NotLegal → (stepped self.old (Entry.End id) ≡ None) × (self.new ≡ self.old) }
+        ensures not_legal { result ≡ Err StepError.NotLegal
+            → IsRefused self.old (Entry.End id) self.new }
     {
         let is_due = self.ends(id);
         if !is_due {
             return Err(StepError::NotLegal);
         }
-        self.set_mode(id, Mode::Ended)?;
+        self.turn(alloc, id, Turn::Ends)?;
         Ok(())
     }
 
-    fn trap(&mut self, id: TaskId, kind: TrapKind) -> Result<(), StepError>
+    fn trap(&mut self, alloc: Global, id: TaskId, kind: TrapKind) -> Result<(), StepError>
         ensures ok { OnOk result (stepped self.old (Entry.Trap id kind) ≡ Some self.new) }
-        ensures not_legal { result ≡ Err StepError.NotLegal → (stepped self.old (Entry.Trap id kind) ≡ None) × (self.new ≡ self.old) }
+        ensures not_legal { result ≡ Err StepError.NotLegal
+            → IsRefused self.old (Entry.Trap id kind) self.new }
     {
         let is_due = self.traps(id, kind);
         if !is_due {
             return Err(StepError::NotLegal);
         }
-        self.set_mode(id, Mode::Trapped)?;
+        self.turn(alloc, id, Turn::Traps)?;
         Ok(())
     }
 
     fn over(&mut self, is_left: bool) -> Result<(), StepError>
         requires { is_left ≡ work_left self.old.state 0 }
         ensures ok { OnOk result (stepped self.old Entry.Over ≡ Some self.new) }
-        ensures not_legal { OnErr result ((stepped self.old Entry.Over ≡ None) × (self.new ≡ self.old)) }
+        ensures not_legal { result ≡ Err StepError.NotLegal
+            → IsRefused self.old Entry.Over self.new }
     {
         if self.passed {
             return Err(StepError::NotLegal);
@@ -517,13 +495,14 @@ impl<'a> Machine<'a> {
         Ok(())
     }
 
-    /// Takes the next entry of a history; `is_left` says whether work is left under the scope that it
-    /// passes. `NotLegal` where the entry is no step, and then nothing has changed; after `OutOfMemory` the
-    /// state is of no more use.
+    /// Takes the next entry of a history; `is_left` says whether work is left under the scope that
+    /// it passes. `NotLegal` where the entry is no step, and then nothing has changed; after
+    /// `OutOfMemory` the state is of no more use.
     pub fn step(&mut self, alloc: Global, entry: &Entry, is_left: bool) -> Result<(), StepError>
         requires { is_left ≡ is_blocked self.old.state entry.now }
         ensures ok { OnOk result (stepped self.old entry.now ≡ Some self.new) }
-        ensures not_legal { result ≡ Err StepError.NotLegal → (stepped self.old entry.now ≡ None) × (self.new ≡ self.old) }
+        ensures not_legal { result ≡ Err StepError.NotLegal
+            → IsRefused self.old entry.now self.new }
     {
         match entry {
             Entry::Call { task, op, reply } => self.call(alloc, *task, *op, *reply),
@@ -549,8 +528,8 @@ impl<'a> Machine<'a> {
                 child,
             } => self.begin(alloc, *owner, *index, *child),
             Entry::Pass { task } => self.pass(alloc, *task, is_left),
-            Entry::End { task } => self.end(*task),
-            Entry::Trap { task, kind } => self.trap(*task, *kind),
+            Entry::End { task } => self.end(alloc, *task),
+            Entry::Trap { task, kind } => self.trap(alloc, *task, *kind),
             Entry::Over => self.over(is_left),
         }
     }
@@ -569,8 +548,8 @@ impl<'a> Machine<'a> {
         }
     }
 
-    /// The legal entry of a going task whose next action is a call, an end or a trap; None for any other
-    /// task.
+    /// The legal entry of a going task whose next action is a call, an end or a trap; None for any
+    /// other task.
     pub fn next_call(&self, task: TaskId) -> Result<Option<Entry>, AllocError>
         ensures { IfOk result (λ entry. entry ≡ entry_due self.now.state task) }
     {

@@ -8,22 +8,10 @@ use Rattle.gr_syntax.specs.declared.syntax.Expr.{Expr}
 use Rattle.gr_syntax.specs.declared.syntax.Expr.TheVariants as e
 use Rattle.gr_syntax.specs.declared.syntax.CallText.{CallText}
 use Rattle.gr_text.specs.declared.token.Sign.TheVariants as s
-use Rattle.gr_parse.specs.Tok.{Tok, is_sign, is_missing, name_of, number_of, object_of, atom_of, operator}
-
-abbrev pub Toks : Type 0
-Toks = List Tok
-
--- So many nestings are allowed.
-abbrev pub max_nesting : ℕ
-max_nesting = 64
-
--- An expression has at most so many binary signs.
-abbrev pub max_signs : ℕ
-max_signs = 255
-
--- The level of the comparisons, above all others.
-abbrev pub loosest : ℕ
-loosest = 5
+use Rattle.gr_parse.specs.declared.limits.TheConstants.{LOOSEST, MAX_SIGNS}
+use Rattle.gr_parse.specs.Tok.{Tok, Toks, is_sign}
+use Rattle.gr_parse.specs.Grammar.{call_of}
+use Rattle.gr_parse.specs.TokWords.{is_missing, name_of, number_of, object_of, atom_of, operator}
 
 -- More turns than a text has tokens.
 unfoldable pub plenty : ℕ
@@ -57,11 +45,11 @@ atom b = value atom_of >>= λ x. pure (x, b)
 
 -- Behind a first operand, a comparison with a second one, if there is one.
 unfoldable pub comparing : (ℕ → Parser Tok Counted) → Counted → Parser Tok Counted
-comparing u x = look (operator loosest) (go_on (pure x) (λ o. spend x.1 (λ b. skip >> (levels operator two u loosest b >>= λ y. pure (two o x.0 y.0, y.1)))))
+comparing u x = look (operator LOOSEST) (go_on (pure x) (λ o. spend x.1 (λ b. skip >> (levels operator two u LOOSEST b >>= λ y. pure (two o x.0 y.0, y.1)))))
 
 -- All operators.
 unfoldable pub comparison : (ℕ → Parser Tok Counted) → ℕ → Parser Tok Counted
-comparison u b = levels operator two u loosest b >>= comparing u
+comparison u b = levels operator two u LOOSEST b >>= comparing u
 
 unfoldable pub group : Parser Tok Counted → Parser Tok Counted
 group inner = inner >>= λ x. expect (is_sign s.RightParen) >> pure x
@@ -73,11 +61,11 @@ unary (suc d) b = either (is_sign s.Bang) (unary d b >>= λ x. pure (negation x)
 
 -- An expression, with room for so many nestings.
 unfoldable pub expr : ℕ → Parser Tok Expr
-expr d = comparison (unary d) max_signs >>= λ x. pure x.0
+expr d = comparison (unary d) MAX_SIGNS >>= λ x. pure x.0
 
 -- An expression whose first operand was read.
 unfoldable pub expr_from : ℕ → Expr → Parser Tok Expr
-expr_from d x = onward operator two (unary d) loosest (x, max_signs) >>= λ y. comparing (unary d) y >>= λ z. pure z.0
+expr_from d x = onward operator two (unary d) LOOSEST (x, MAX_SIGNS) >>= λ y. comparing (unary d) y >>= λ z. pure z.0
 
 -- ---- arguments and calls. The number `turns` bounds the turns of each loop; each turn takes a token.
 
@@ -96,9 +84,6 @@ some_name (Some n) = skip >> pure (Some n)
 -- A reducer's name, if there is one.
 unfoldable pub reducer : Parser Tok (Option Name)
 reducer = look name_of some_name
-
-abbrev pub call_of : Name → Name → Option Name → List Expr → CallText
-call_of object op reducer xs = record { object = object; op = op; reducer = reducer; args = xs }
 
 -- A call behind its dot.
 unfoldable pub operation : ℕ → ℕ → Name → Parser Tok CallText
