@@ -1,6 +1,6 @@
 use Rattle.std.proofs.Common.{◌≡◌, drop}
 use Rattle.gr_replay.proofs.Verdicts.{verdict_from, verdict_of}
-use Rattle.gr_replay.proofs.replay.replay.Given as goal
+use Rattle.gr_replay.proofs.judging.replay.Given as goal
 
 abbrev pub invariant-loop-at : goal.invariant-loop-at
 invariant-loop-at l = record {

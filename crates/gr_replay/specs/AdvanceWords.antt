@@ -6,12 +6,12 @@ use Rattle.gr_plain.specs.declared.plain.StepError.{StepError}
 use Rattle.gr_plain.specs.declared.plain.StepError.TheVariants as step
 use Rattle.gr_hist.specs.declared.text.NamedEntry.{NamedEntry}
 use Rattle.gr_replay.specs.Entries.{entry_in}
-use Rattle.gr_replay.specs.declared.replay.ReplayError.{ReplayError}
-use Rattle.gr_replay.specs.declared.replay.ReplayError.TheVariants as error
+use Rattle.gr_replay.specs.declared.judging.ReplayError.{ReplayError}
+use Rattle.gr_replay.specs.declared.judging.ReplayError.TheVariants as error
 
 -- After the entry that the line names, where it names one that is a step.
 abbrev pub advanced : Held → NamedEntry → Option Held
-advanced h line = option_and_then (stepped h) (entry_in h.program line)
+advanced held line = option_and_then (stepped held) (entry_in held.program line)
 
 -- The error of a replay at the entry with this number.
 abbrev pub error_at : StepError → ℕ → ReplayError

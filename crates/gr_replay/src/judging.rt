@@ -1,25 +1,25 @@
 //! The replay of a history text: whether it is legal, and complete, or which line is no step.
-ghost use Rattle.std.specs.Prelude.{◌≡◌, IfOk, MatchResult, OnOk, None, Some};
-ghost use Rattle.gr_replay.specs.Judged.{Judged, SaysError, legal};
-ghost use Rattle.gr_replay.specs.Advances.{advanced, error_at};
+ghost use Rattle.std.specs.Prelude.{◌≡◌, MatchResult, OnOk, None, Some, Err};
+ghost use Rattle.gr_replay.specs.Judged.{JudgedText, SaysError, legal};
+ghost use Rattle.gr_replay.specs.AdvanceWords.{advanced, error_at};
 
 use crate::entries::entry_in;
-use crate::names::Names;
-use gr_hist::text::{HistoryText, NamedEntry};
 use gr_accept::Accepted;
-use gr_plain::plain::{Plain, StepError};
+use gr_hist::{HistoryText, NamedEntry};
+use gr_names::ProgramNames;
+use gr_plain::{Plain, StepError};
 use std::alloc::{AllocError, Global};
 use thiserror::Error;
 
 /// What is said of a legal history text.
-#[derive(Clone, Copy, Debug, PartialEq, Eq)]
+#[derive(Clone, Copy)]
 pub struct Replayed {
     /// Whether all work has ended, as the last entry tells.
     pub complete: bool,
 }
 
 /// Why a history text isn't legal, or why nothing is said of it.
-#[derive(Clone, Copy, Debug, PartialEq, Eq, Error)]
+#[derive(Debug, Drop, Error)]
 pub enum ReplayError {
     /// The first entry that isn't legal where it stands; entries count from 1, and the header is none.
     #[error("not legal at entry {entry}")]
@@ -31,7 +31,7 @@ pub enum ReplayError {
 
 impl From<AllocError> for ReplayError {
     ghost use Rattle.std.specs.Prelude.{◌≡◌};
-    ghost use Rattle.gr_replay.specs.declared.replay.ReplayError.TheVariants as error;
+    ghost use Rattle.gr_replay.specs.declared.judging.ReplayError.TheVariants as error;
 
     ghost from_gives = { λ e r. r ≡ error.OutOfMemory };
 
@@ -44,7 +44,7 @@ impl From<AllocError> for ReplayError {
 /// Takes the entry of a line as the next step.
 fn advance(
     alloc: Global,
-    names: &Names,
+    names: &ProgramNames,
     plain: &mut Plain,
     line: &NamedEntry,
 ) -> Result<(), StepError>
@@ -69,17 +69,19 @@ fn replay_error(error: StepError, entry: u64) -> ReplayError
     }
 }
 
-/// Replays a history text on a program. It is legal where each line names an entry that is a step after
-/// those before it; of any other the first line that is none is reported. A line whose object or task the
-/// program doesn't have names no entry.
+/// Replays a history text on a program, with the number of cores and the limit of steps of its header.
+/// It is legal where each line names an entry that is a step after those before it; of any other the
+/// first line that is none is reported. A line whose object or task the program doesn't have names no
+/// entry. `OutOfMemory` says nothing of the text.
 pub fn replay(
     alloc: Global,
     program: &Accepted,
     text: &HistoryText,
 ) -> Result<Replayed, ReplayError>
-    ensures { MatchResult result (λ r. Judged program.now text.now.cores text.now.steps text.now.lines (legal r.complete)) (SaysError program.now text.now.cores text.now.steps text.now.lines) }
+    ensures { MatchResult result
+        (λ said. JudgedText program.now text.now (legal said.complete)) (SaysError program.now text.now) }
 {
-    let names = Names::new(alloc, program.program())?;
+    let names = ProgramNames::new(alloc, program.program())?;
     let mut plain = Plain::start(alloc, program, text.cores, text.steps)?;
     let lines = text.lines.as_slice();
     for (at, line) in lines.iter().enumerate() {
