@@ -37,7 +37,7 @@ object_found bytes name h =
     (found.1, sym (ap is_object_name found.1) ∙ found.0)
 
 -- Where none passes the test, the one at a place doesn't.
-any_false : (test : Bytes → Bool) (words : List Bytes) (place : ℕ) (word : Bytes) → list_any test words ≡ false → slice_get words place ≡ Some word → test word ≡ false
+pub any_false : (test : Bytes → Bool) (words : List Bytes) (place : ℕ) (word : Bytes) → list_any test words ≡ false → slice_get words place ≡ Some word → test word ≡ false
 any_false test [] place word none at = cc
 any_false test (first ∷ words) zero word none at = ap test (sym (same_Some first word at)) ∙ (or_parts (test first) (list_any test words) none).0
 any_false test (first ∷ words) (suc place) word none at = any_false test words place word (or_parts (test first) (list_any test words) none).1 at

@@ -2,7 +2,7 @@
 use Rattle.std.proofs.Common.{◌≡◌, ℕ, ◌<◌, ◌≤◌, Bool, true, false, cond, List, length, Option, Some, None, Ok, Err, refl, ap, ◌∙◌, arith}
 use Rattle.std.proofs.lemmas.List.{length-append, length-drop}
 use Rattle.gr_meets.specs.Parsers.{Outcome, Parser, and_then, ◌>>=◌, ◌>>◌, skip, sees, peek, next, expect, either, look, value, take_meaning}
-use Rattle.gr_meets.specs.Languages.{Meets, Agree, Shortens, Takes}
+use Rattle.gr_meets.specs.LanguageWords.{Meets, Agree, Shortens, Takes}
 use Rattle.gr_meets.proofs.Meets.{took}
 
 pub next_shorter : {T : Type 0} (ts : List T) → length (next ts) ≤ length ts

@@ -2,7 +2,7 @@
 use Rattle.std.proofs.Common.{◌≡◌, ℕ, zero, suc, ◌+◌, ◌-◌, ◌<◌, ◌≤◌, List, [], ◌∷◌, ◌++◌, length, Option, Some, None, Ok, Err, refl, sym, ap, subst, ◌∙◌, append_assoc, arith}
 use Rattle.std.proofs.lemmas.List.{append-nil, length-append}
 use Rattle.gr_meets.specs.Parsers.{Outcome, Parser, and_then, ◌>>=◌, ◌>>◌, pure, skip, peek, next, spend, go_on, chain, level}
-use Rattle.gr_meets.specs.Languages.{Read, Meets, Completes, Agree, Shortens}
+use Rattle.gr_meets.specs.LanguageWords.{Read, Meets, Completes, Agree, Shortens}
 use Rattle.gr_meets.specs.Lists.{Chained, Spends}
 use Rattle.gr_meets.proofs.Meets.{weaken, meets_pure, read_refuse, branch, peek-alike, Means, peek_means, skip_then, bind_also, took}
 use Rattle.gr_meets.proofs.Agrees.{agree_bind, skip_same}
@@ -159,8 +159,8 @@ module _ {T A O : Type 0} (n : ℕ) (sign : T → Option O) (two : O → A → A
   chain_goes m b x o t rest h = ap (λ (q : Option O). go_on (pure (x, suc b)) (λ o. spend (suc b) (λ b. skip >> operand b >>= λ y. chain sign two operand m (two o x y.0, y.1))) q (t ∷ rest)) h
 
   chained_reads : {ts : List T} {x : A} {s : ℕ} → Chained sign two E ts x s → (b k : ℕ) (rest : List T) → s + k ≡ b → F rest → length (ts ++ rest) < n → level sign two operand b (ts ++ rest) ≡ chain sign two operand (suc k) (x, k) rest
-  chained_reads (Chained.one {ts} {x} {n = s} h) b k rest sum f few = first_reads b (ts ++ rest) (x, k) rest ((c b).reads ts (x, k) (record { signs = s; spelled = h; sum = sum }) rest f few)
-  chained_reads (Chained.pair {a} {b = d} {x} {y} {n = i} {m = j} {o} t p q r) b k rest sum f few =
+  chained_reads (Chained.one {inside = ts} {inner = x} {count = s} h) b k rest sum f few = first_reads b (ts ++ rest) (x, k) rest ((c b).reads ts (x, k) (record { signs = s; spelled = h; sum = sum }) rest f few)
+  chained_reads (Chained.pair {front = a} {back = d} {left = x} {right = y} {count = i} {more = j} {op = o} t p q r) b k rest sum f few =
       let cut : (a ++ t ∷ d) ++ rest ≡ a ++ (t ∷ (d ++ rest)) = append_assoc a (t ∷ d) rest in
       let fewer : length (a ++ (t ∷ (d ++ rest))) < n = subst (λ (u : List T). length u < n) cut few in
       let size : length (a ++ (t ∷ (d ++ rest))) ≡ length a + suc (length (d ++ rest)) = length-append a (t ∷ (d ++ rest)) in

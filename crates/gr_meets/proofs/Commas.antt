@@ -2,8 +2,9 @@
 use Rattle.std.proofs.Common.{◌≡◌, ℕ, ◌+◌, ◌-◌, ◌<◌, ◌≤◌, Bool, true, false, not, cond, List, [], ◌∷◌, ◌++◌, length, Ok, Err, refl, sym, ap, subst, ◌∙◌, append_assoc, arith}
 use Rattle.std.proofs.lemmas.List.{append-nil, length-append}
 use Rattle.gr_meets.specs.Parsers.{Outcome, Parser, and_then, ◌>>=◌, ◌>>◌, pure, sees, next, expect, halts, run, other, commas, separated, enclosed}
-use Rattle.gr_meets.specs.Languages.{Tests, Meets, Completes, Agree, Shortens, Takes}
-use Rattle.gr_meets.specs.Lists.{Repeated, Extends, Begins, Behind, Separated, Enclosed}
+use Rattle.gr_meets.specs.LanguageWords.{Tests, Meets, Completes, Agree, Shortens, Takes}
+use Rattle.gr_meets.specs.Lists.{Repeated, Separated, Enclosed}
+use Rattle.gr_meets.specs.ListsWords.{Extends, Begins, Behind}
 use Rattle.gr_meets.proofs.Meets.{weaken, meets_pure, expect_then, either_meets, bind_also}
 use Rattle.gr_meets.proofs.Completes.{expect_reads, either_first, either_second, reads_then}
 use Rattle.gr_meets.proofs.Agrees.{agree_bind, agree_self, agree_expect, agree_either}
@@ -40,7 +41,7 @@ module _ {T A : Type 0} (comma : T → Bool) (p : Parser T A) where
 module _ {T A : Type 0} (comma : T) (E : List T → A → Type 0) where
   joined : {b : List T} {ys : List A} → Repeated (Behind comma E) b ys → (a : List T) (x : A) → E a x → Separated comma E (a ++ b) (x ∷ ys)
   joined Repeated.none a x h = subst (λ (u : List T). Separated comma E u (x ∷ [])) (sym (append-nil a)) (Separated.last h)
-  joined (Repeated.one_more {us} {x = y} {xs} (Behind.behind {ts} g) k) a x h = Separated.before h (joined k ts y g)
+  joined (Repeated.one_more {back = us} {first = y} {others = xs} (Behind.behind {ts} g) k) a x h = Separated.before h (joined k ts y g)
 
   listed : (x : A) (b : List T) (ys : List A) → Extends (Behind comma E) (x ∷ []) b ys → (a : List T) → E a x → Separated comma E (a ++ b) ys
   listed x b ys h a k = subst (Separated comma E (a ++ b)) (sym h.all) (joined h.spelled a x k)
@@ -72,8 +73,8 @@ pub separated_meets : {T A : Type 0} {is_comma : T → Bool} {comma : T} {p : Pa
 separated_meets test n m b y some = separated_also test n m (λ a x h. h) b y some
 
 separated_wider : {T A : Type 0} {comma : T} {E V : List T → A → Type 0} (also : (a : List T) (x : A) → E a x → V a x) {ts : List T} {xs : List A} → Separated comma E ts xs → Separated comma V ts xs
-separated_wider also (Separated.last {ts} {x} h) = Separated.last (also ts x h)
-separated_wider also (Separated.before {ts} {x} h k) = Separated.before (also ts x h) (separated_wider also k)
+separated_wider also (Separated.last {front = ts} {only = x} h) = Separated.last (also ts x h)
+separated_wider also (Separated.before {front = ts} {first = x} h k) = Separated.before (also ts x h) (separated_wider also k)
 
 -- Up to the closing token. The last three arguments: an element.
 pub enclosed_also : {T A : Type 0} {is_close is_comma : T → Bool} {close comma : T} {p : Parser T A} {E V : List T → A → Type 0} → Tests is_close close → Tests is_comma comma → (n : ℕ) → Meets p E V → ((a : List T) (x : A) → E a x → V a x) → (b : List T) (y : A) → V b y
@@ -103,8 +104,8 @@ record Cut {T A : Type 0} (comma : T) (E : List T → A → Type 0) (ts : List T
 
 module _ {T A : Type 0} (comma : T) (E : List T → A → Type 0) where
   cut : {ts : List T} {xs : List A} → Separated comma E ts xs → Cut comma E ts xs
-  cut (Separated.last {ts} {x} h) = record { first = x; others = []; front = ts; back = []; parts = sym (append-nil ts); all = refl; one = h; rest = Repeated.none }
-  cut (Separated.before {ts} {us} {x} {xs} h k) = let c = cut k in record {
+  cut (Separated.last {front = ts} {only = x} h) = record { first = x; others = []; front = ts; back = []; parts = sym (append-nil ts); all = refl; one = h; rest = Repeated.none }
+  cut (Separated.before {front = ts} {back = us} {first = x} {others = xs} h k) = let c = cut k in record {
     first = x;
     others = xs;
     front = ts;
@@ -134,7 +135,7 @@ module _ {T A : Type 0} (n : ℕ) (is_comma : T → Bool) (comma : T) (test : Te
 
   back_follows : {ts : List T} {xs : List A} → Repeated (Behind comma E) ts xs → (rest : List T) → F rest → F (ts ++ rest)
   back_follows Repeated.none rest f = f
-  back_follows (Repeated.one_more {us} (Behind.behind {ts} h) k) rest f = follow ((ts ++ us) ++ rest)
+  back_follows (Repeated.one_more {back = us} (Behind.behind {ts} h) k) rest f = follow ((ts ++ us) ++ rest)
 
   separated_reads : (ts : List T) (xs : List A) → Separated comma E ts xs → (rest : List T) → F rest → sees is_comma rest ≡ false → length (ts ++ rest) < n → separated is_comma p n (ts ++ rest) ≡ Ok (xs, rest)
   unfolding separated commas
@@ -154,8 +155,8 @@ pub separated_completes : {T A : Type 0} {n : ℕ} {is_comma : T → Bool} {comm
 separated_completes {n} {is_comma} {comma} {p} {E} {F} test c follow = record { reads = λ ts xs h rest f few. separated_reads n is_comma comma test p E F c follow ts xs h rest f.0 f.1 few }
 
 separated_begins : {T A : Type 0} (is : T → Bool) (comma : T) (E : List T → A → Type 0) → ((ts : List T) (x : A) → E ts x → (rest : List T) → sees is (ts ++ rest) ≡ false) → {ts : List T} {xs : List A} → Separated comma E ts xs → (rest : List T) → sees is (ts ++ rest) ≡ false
-separated_begins is comma E first (Separated.last {ts} {x} h) rest = first ts x h rest
-separated_begins is comma E first (Separated.before {ts} {us} {x} h k) rest = ap (sees is) (append_assoc ts (comma ∷ us) rest) ∙ first ts x h ((comma ∷ us) ++ rest)
+separated_begins is comma E first (Separated.last {front = ts} {only = x} h) rest = first ts x h rest
+separated_begins is comma E first (Separated.before {front = ts} {back = us} {first = x} h k) rest = ap (sees is) (append_assoc ts (comma ∷ us) rest) ∙ first ts x h ((comma ∷ us) ++ rest)
 
 module _ {T A : Type 0} (n : ℕ) (is_close is_comma : T → Bool) (close comma : T) (closing : Tests is_close close) (test : Tests is_comma comma) (p : Parser T A) (E : List T → A → Type 0) (F : List T → Type 0) (c : Completes n p E F)
     (follow : (rest : List T) → F (comma ∷ rest)) (ends : (rest : List T) → F (close ∷ rest)) (differ : is_comma close ≡ false) (first : (ts : List T) (x : A) → E ts x → (rest : List T) → sees is_close (ts ++ rest) ≡ false) where
@@ -166,7 +167,7 @@ module _ {T A : Type 0} (n : ℕ) (is_close is_comma : T → Bool) (close comma 
   enclosed_reads : {ts : List T} {xs : List A} → Enclosed close comma E ts xs → (rest : List T) → length (ts ++ rest) < n → enclosed is_close is_comma p n (ts ++ rest) ≡ Ok (xs, rest)
   unfolding enclosed
   enclosed_reads Enclosed.empty rest few = either_first closing (pure []) (separated is_comma p n >>= λ xs. expect is_close >> pure xs) rest refl
-  enclosed_reads (Enclosed.some {ts} {xs} h) rest few =
+  enclosed_reads (Enclosed.some {inside = ts} {found = xs} h) rest few =
       either_second is_close (pure []) (separated is_comma p n >>= λ xs. expect is_close >> pure xs) ((ts ++ close ∷ []) ++ rest)
       (ap (sees is_close) (append_assoc ts (close ∷ []) rest) ∙ separated_begins is_close comma E first h (close ∷ rest))
       (reads_then (separated_completes test c follow) h (close ∷ []) rest (ends rest, comma_unseen rest) few (λ xs. expect is_close >> pure xs) (expect_reads closing (pure xs) rest refl))

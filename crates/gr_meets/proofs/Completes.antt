@@ -2,7 +2,7 @@
 use Rattle.std.proofs.Common.{◌≡◌, ℕ, suc, ◌<◌, Bool, true, false, cond, List, [], ◌∷◌, ◌++◌, length, Option, Some, None, Ok, Err, sym, ap, subst, ◌∙◌, append_assoc}
 use Rattle.std.proofs.lemmas.List.{append-nil}
 use Rattle.gr_meets.specs.Parsers.{Outcome, Parser, and_then, ◌>>=◌, ◌>>◌, sees, peek, next, expect, either, look, value, take_meaning}
-use Rattle.gr_meets.specs.Languages.{Tests, Completes}
+use Rattle.gr_meets.specs.LanguageWords.{Tests, Completes}
 
 pub sees_own : {T : Type 0} {is : T → Bool} {t : T} → Tests is t → (ts : List T) → sees is (t ∷ ts) ≡ true
 unfolding sees

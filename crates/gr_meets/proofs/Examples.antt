@@ -2,8 +2,9 @@
 use Rattle.std.proofs.Common.{◌≡◌, ℕ, zero, suc, ◌+◌, ◌<◌, true, false, List, [], ◌∷◌, ◌++◌, length, Some, Ok, refl, sym, ap, subst, ◌∙◌, arith}
 use Rattle.std.proofs.lemmas.List.{append-nil}
 use Rattle.gr_meets.specs.Parsers.{◌>>=◌, ◌>>◌, pure, expect, sees, peek, halts, enclosed, levels, sign_of}
-use Rattle.gr_meets.specs.Languages.{Tests, Meets, Completes, Agree, Shortens, Exact}
-use Rattle.gr_meets.specs.Lists.{Chained, Enclosed, Levels, Spends, Begins, Loose}
+use Rattle.gr_meets.specs.LanguageWords.{Tests, Meets, Completes, Agree, Shortens, Exact}
+use Rattle.gr_meets.specs.Lists.{Chained, Enclosed, Levels, Spends}
+use Rattle.gr_meets.specs.ListsWords.{Begins, Loose}
 use Rattle.gr_meets.specs.Example.{Token, Number, Open, Close, Begin, End, Comma, Plus, Times, Tree, Leaf, Two, is_open, is_close, is_begin, is_end, is_comma, number, binds, OperandOf, IsOperand, IsSum, IsLine, IsText, leaf, operand, sum, line, never, text}
 use Rattle.gr_meets.proofs.Meets.{weaken, meets_pure, expect_then, either_meets, value_then, bind}
 use Rattle.gr_meets.proofs.Completes.{expect_reads, either_first, either_second, value_reads, reads_then, reads_last, reads_whole}

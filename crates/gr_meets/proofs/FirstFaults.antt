@@ -1,21 +1,17 @@
 -- Where an exact parser stops, the first fault is, and nowhere else.
 use Rattle.std.proofs.Common.{◌≡◌, ℕ, suc, ◌+◌, ◌<◌, ◌≤◌, List, [], ◌∷◌, ◌++◌, length, Ok, Err, refl, sym, ap, subst, ◌∙◌, append_assoc, arith}
-use Rattle.std.proofs.lemmas.List.{append-nil, length-append}
+use Rattle.std.proofs.lemmas.List.{append-nil, append_cancel_left, length-append}
 use Rattle.gr_meets.specs.Parsers.{Outcome, Parser}
-use Rattle.gr_meets.specs.Languages.{Alike, Exact}
+use Rattle.gr_meets.specs.LanguageWords.{Alike, Exact}
 use Rattle.gr_meets.specs.Faults.{Continues, IsRefused, FirstFault}
 use Rattle.gr_meets.proofs.Meets.{took, stopped}
 
 -- Two ways to cut the same list, with as much behind.
-same_cut : {T : Type 0} (a b f r : List T) → a ++ b ≡ f ++ r → length b ≡ length r → a ≡ f
+pub same_cut : {T : Type 0} (a b f r : List T) → a ++ b ≡ f ++ r → length b ≡ length r → a ≡ f
 same_cut [] b [] r e h = refl
 same_cut [] b (u ∷ f) r e h = absurd (omega (arith, h, ap length e, length-append f r))
 same_cut (t ∷ a) b [] r e h = absurd (omega (arith, h, ap length e, length-append a b))
 same_cut (t ∷ a) b (u ∷ f) r e h = let heads : t ≡ u = cc in let tails : a ++ b ≡ f ++ r = cc in let k : a ≡ f = same_cut a b f r tails h in cc
-
-same_back : {T : Type 0} (a b r : List T) → a ++ b ≡ a ++ r → b ≡ r
-same_back [] b r e = e
-same_back (t ∷ a) b r e = same_back a b r cc
 
 data Compare {T : Type 0} (a g : List T) : Type 0 where
   begins : (more : List T) → g ≡ a ++ more → Compare a g
@@ -87,7 +83,7 @@ module _ {T A : Type 0} {P : ℕ → Parser T A} {W : List T → A → Type 0} (
       let err : P n ts ≡ Err left = (exact.agree n plenty).same ts (omega arith) few ∙ e in
       let s = stopped (exact.meets n) ts left err in
       let f : s.front ≡ front = same_cut s.front s.rest front rest (sym s.parts ∙ parts) (sym s.left ∙ place) in
-      let b : s.rest ≡ rest = same_back front s.rest rest (ap (λ (u : List T). u ++ s.rest) (sym f) ∙ sym s.parts ∙ parts) in
+      let b : s.rest ≡ rest = append_cancel_left front s.rest rest (ap (λ (u : List T). u ++ s.rest) (sym f) ∙ sym s.parts ∙ parts) in
       let again : P n (front ++ r) ≡ Err (length r) = ap (λ (u : List T). P n (u ++ r)) (sym f) ∙ s.again r (subst (λ (u : List T). Alike u r) (sym b) alike) in
       let ok : P n (front ++ r) ≡ Ok (x, []) = exact.reads n (front ++ r) x h (omega arith) in
       cc

@@ -3,8 +3,9 @@ use Rattle.std.proofs.Common.{◌≡◌, ℕ, zero, suc, ◌<◌, Bool, true, fa
 use Rattle.std.proofs.lemmas.List.{append-nil}
 use Rattle.std.proofs.lemmas.Bool.{eqb-true}
 use Rattle.gr_meets.specs.Parsers.{of_level, sign_of, Outcome, Parser, and_then, ◌>>=◌, pure, peek, chain, level, levels, onward}
-use Rattle.gr_meets.specs.Languages.{Meets, Completes, Agree}
-use Rattle.gr_meets.specs.Lists.{Chained, Spends, Levels, Loose, Onward}
+use Rattle.gr_meets.specs.LanguageWords.{Meets, Completes, Agree}
+use Rattle.gr_meets.specs.Lists.{Chained, Spends, Levels}
+use Rattle.gr_meets.specs.ListsWords.{Loose, Onward}
 use Rattle.gr_meets.proofs.Meets.{weaken, meets_pure, bind_also}
 use Rattle.gr_meets.proofs.Completes.{completes_weaken}
 use Rattle.gr_meets.proofs.Agrees.{agree_bind, shortens}
@@ -86,8 +87,8 @@ module _ {T A O : Type 0} (n m : ℕ) (sign : ℕ → T → Option O) (two : O �
 module _ {T A O : Type 0} (sign : T → Option O) (two : O → A → A → A) (E : List T → A → ℕ → Type 0) (G : List T → Type 0) (first : (ts : List T) (x : A) (n : ℕ) → E ts x n → (rest : List T) → G (ts ++ rest)) where
   -- It begins as an operand does.
   pub chained_first : {ts : List T} {x : A} {n : ℕ} → Chained sign two E ts x n → (rest : List T) → G (ts ++ rest)
-  chained_first (Chained.one {ts} {x} {n} h) rest = first ts x n h rest
-  chained_first (Chained.pair {a} {b} t p q r) rest = subst G (sym (append_assoc a (t ∷ b) rest)) (chained_first p ((t ∷ b) ++ rest))
+  chained_first (Chained.one {inside = ts} {inner = x} {count = n} h) rest = first ts x n h rest
+  chained_first (Chained.pair {front = a} {back = b} t p q r) rest = subst G (sym (append_assoc a (t ∷ b) rest)) (chained_first p ((t ∷ b) ++ rest))
 
 module _ {T A O : Type 0} (sign : ℕ → T → Option O) (two : O → A → A → A) (E : List T → A → ℕ → Type 0) (G : List T → Type 0) (first : (ts : List T) (x : A) (n : ℕ) → E ts x n → (rest : List T) → G (ts ++ rest)) where
   pub levels_first : (l : ℕ) (ts : List T) (x : A) (n : ℕ) → Levels sign two E l ts x n → (rest : List T) → G (ts ++ rest)

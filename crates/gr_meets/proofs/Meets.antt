@@ -1,7 +1,7 @@
 -- What meets a language, combinator by combinator.
 use Rattle.std.proofs.Common.{◌≡◌, ℕ, Bool, true, false, cond, List, [], ◌∷◌, ◌++◌, length, Option, Some, None, Ok, Err, refl, sym, ap, subst, ◌∙◌, append_assoc}
 use Rattle.gr_meets.specs.Parsers.{Outcome, Parser, and_then, ◌>>=◌, ◌>>◌, pure, skip, refuse, sees, peek, next, expect, either, look, value, take_meaning}
-use Rattle.gr_meets.specs.Languages.{Alike, Tests, Heads, Took, Stopped, Read, Meets}
+use Rattle.gr_meets.specs.LanguageWords.{Alike, Tests, Heads, Took, Stopped, Read, Meets}
 
 pub alike-append : {T : Type 0} (front a b : List T) → Alike a b → Alike (front ++ a) (front ++ b)
 alike-append [] a b h = h

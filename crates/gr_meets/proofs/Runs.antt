@@ -2,8 +2,9 @@
 use Rattle.std.proofs.Common.{◌≡◌, ℕ, zero, suc, ◌+◌, ◌-◌, ◌<◌, Bool, true, false, cond, List, [], ◌∷◌, ◌++◌, length, Ok, Err, refl, sym, ap, subst, ◌∙◌, append_assoc, arith}
 use Rattle.std.proofs.lemmas.List.{append-nil, length-append}
 use Rattle.gr_meets.specs.Parsers.{Outcome, Parser, and_then, ◌>>=◌, halts, run}
-use Rattle.gr_meets.specs.Languages.{Alike, Read, Meets, Completes, Agree, Takes}
-use Rattle.gr_meets.specs.Lists.{Repeated, Extends, Begins}
+use Rattle.gr_meets.specs.LanguageWords.{Alike, Read, Meets, Completes, Agree, Takes}
+use Rattle.gr_meets.specs.Lists.{Repeated}
+use Rattle.gr_meets.specs.ListsWords.{Extends, Begins}
 use Rattle.gr_meets.proofs.Meets.{weaken, meets_pure, meets_refuse, branch, bind_also}
 
 pub halts-alike : {T : Type 0} (stop : T → Bool) (a b : List T) → Alike a b → halts stop a ≡ halts stop b
@@ -93,7 +94,7 @@ run_takes_all stop p n xs ys ts rest never e = none_left stop never rest (run_en
 module _ {T A : Type 0} (n : ℕ) (stop : T → Bool) (p : Parser T A) (E : List T → A → Type 0) (F : List T → Type 0) (c : Completes n p E F) (begins : Begins stop E F) where
   follows : {ts : List T} {xs : List A} → Repeated E ts xs → (rest : List T) → F rest → F (ts ++ rest)
   follows Repeated.none rest f = f
-  follows (Repeated.one_more {ts} {us} {x} h k) rest f = subst F (sym (append_assoc ts us rest)) (begins.follows ts x h (us ++ rest))
+  follows (Repeated.one_more {front = ts} {back = us} {first = x} h k) rest f = subst F (sym (append_assoc ts us rest)) (begins.follows ts x h (us ++ rest))
 
   has_token : (ts : List T) (x : A) → E ts x → 0 < length ts
   unfolding halts
@@ -102,7 +103,7 @@ module _ {T A : Type 0} (n : ℕ) (stop : T → Bool) (p : Parser T A) (E : List
 
   pub run_reads : {ts : List T} {xs : List A} → Repeated E ts xs → (m : ℕ) (ys : List A) (rest : List T) → F rest → halts stop rest ≡ true → length (ts ++ rest) < n → length (ts ++ rest) < m → run stop p m ys (ts ++ rest) ≡ Ok (ys ++ xs, rest)
   run_reads Repeated.none m ys rest f h few enough = run_end stop p m ys rest h (omega (arith, enough)) ∙ ap (λ (zs : List A). Ok (zs, rest)) (sym (append-nil ys))
-  run_reads (Repeated.one_more {ts} {us} {x} {xs} e k) m ys rest f h few enough =
+  run_reads (Repeated.one_more {front = ts} {back = us} {first = x} {others = xs} e k) m ys rest f h few enough =
       let cut : (ts ++ us) ++ rest ≡ ts ++ (us ++ rest) = append_assoc ts us rest in
       let size : length ((ts ++ us) ++ rest) ≡ length ts + length (us ++ rest) = ap length cut ∙ length-append ts (us ++ rest) in
       let some : 0 < length ts = has_token ts x e in

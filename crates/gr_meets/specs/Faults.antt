@@ -3,18 +3,18 @@ use Rattle.std.specs.Prelude.{◌≡◌, ℕ, List, [], ◌∷◌, ◌++◌, len
 
 -- Something of the language begins so.
 abbrev pub Continues : {T A : Type 0} → (List T → A → Type 0) → List T → Type 0
-Continues {T} {A} W ts = (more : List T) × (x : A) × W (ts ++ more) x
+Continues {T} {A} Text tokens = (more : List T) × (meaning : A) × Text (tokens ++ more) meaning
 
 -- Nothing of the language goes on with the next token, or ends where there is none.
 abbrev pub IsRefused : {T A : Type 0} → (List T → A → Type 0) → List T → List T → Type 0
-IsRefused {T} {A} W front [] = (x : A) → W front x → ⊥
-IsRefused W front (t ∷ rest) = Continues W (front ++ t ∷ []) → ⊥
+IsRefused {T} {A} Text front [] = (meaning : A) → Text front meaning → ⊥
+IsRefused Text front (token ∷ rest) = Continues Text (front ++ token ∷ []) → ⊥
 
 -- The first token after which nothing of the language goes on is the one from which on so many are left; none left: the end itself.
-pub record FirstFault {T A : Type 0} (W : List T → A → Type 0) (ts : List T) (left : ℕ) : Type 0 where
+pub record FirstFault {T A : Type 0} (Text : List T → A → Type 0) (tokens : List T) (left : ℕ) : Type 0 where
   pub front : List T
   pub rest : List T
-  pub parts : ts ≡ front ++ rest
+  pub parts : tokens ≡ front ++ rest
   pub place : left ≡ length rest
-  pub before : Continues W front
-  pub refused : IsRefused W front rest
+  pub before : Continues Text front
+  pub refused : IsRefused Text front rest

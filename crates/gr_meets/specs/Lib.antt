@@ -1,5 +1,7 @@
 pub mod Parsers
-pub mod Languages
 pub mod Lists
 pub mod Faults
 pub mod Example
+-- For proofs and private functions.
+pub mod LanguageWords
+pub mod ListsWords

@@ -1,7 +1,7 @@
 -- Statements, blocks, items and programs: enough turns are enough.
 use Rattle.std.proofs.Common.{◌≡◌, ℕ, zero, suc, Bool, true, false, List, [], Option, Some, None, Ok, refl}
 use Rattle.gr_meets.specs.Parsers.{Parser, pure, refuse, halts}
-use Rattle.gr_meets.specs.Languages.{Meets, Agree, Exact}
+use Rattle.gr_meets.specs.LanguageWords.{Meets, Agree, Exact}
 use Rattle.gr_meets.proofs.Completes.{reads_whole}
 use Rattle.gr_meets.proofs.Agrees.{agree_self, agree_bind, agree_skip, agree_expect, agree_either, agree_look, shortens, takes}
 use Rattle.gr_meets.proofs.Runs.{run_meets, run_agree, run_takes_all}
@@ -14,9 +14,11 @@ use Rattle.gr_syntax.specs.declared.syntax.Item.{Item}
 use Rattle.gr_syntax.specs.declared.syntax.Item.TheVariants as items
 use Rattle.gr_text.specs.declared.token.Keyword.TheVariants as keys
 use Rattle.gr_text.specs.declared.token.Sign.TheVariants as signs
-use Rattle.gr_parse.specs.Tok.{Tok, is_sign, is_key, name_of, heap_of}
-use Rattle.gr_parse.specs.Operands.{Toks, max_nesting, no_room}
-use Rattle.gr_parse.specs.Parsing.{array, named_item, named_right, heap_right, right_by, right_side, one_target, two_targets, assignment, let_statement, named_statement, heap_statement, print, else_block, if_statement, while_statement, finish, started, spawn, forall_task, forall_statement, plain_statement, key_statement, heap_or, name_or, statement_with, braces, statement, block, input, params, task, key_item, item_by, item, never, program}
+use Rattle.gr_parse.specs.Tok.{Tok, is_sign, Toks}
+use Rattle.gr_parse.specs.TokWords.{is_key, name_of, heap_of}
+use Rattle.gr_parse.specs.declared.limits.TheConstants.{MAX_NESTING}
+use Rattle.gr_parse.specs.OperandsWords.{no_room}
+use Rattle.gr_parse.specs.ParsingWords.{array, named_item, named_right, heap_right, right_by, right_side, one_target, two_targets, assignment, let_statement, named_statement, heap_statement, print, else_block, if_statement, while_statement, finish, started, spawn, forall_task, forall_statement, plain_statement, key_statement, heap_or, name_or, statement_with, braces, statement, block, input, params, task, key_item, item_by, item, never, program}
 use Rattle.gr_parse.specs.Grammar.{IsObject, IsBlock, IsStmt, IsProgram}
 use Rattle.gr_parse.proofs.Exprs.{expr_meets}
 use Rattle.gr_parse.proofs.Calls.{name_meets, args_meets, operation_meets, method_meets, call_meets, numbers_meets}
@@ -157,7 +159,7 @@ module _ (n m : ℕ) where
 
   task_agree : Agree n m (task n) (task m)
   unfolding task
-  task_agree = agree_bind agree_self (shortens name_meets) (λ o. agree_bind params_agree (shortens (params_meets n)) (λ ps. agree_bind (block_agree n m max_nesting) (shortens (block_meets n max_nesting)) (λ xs. agree_self)))
+  task_agree = agree_bind agree_self (shortens name_meets) (λ o. agree_bind params_agree (shortens (params_meets n)) (λ ps. agree_bind (block_agree n m MAX_NESTING) (shortens (block_meets n MAX_NESTING)) (λ xs. agree_self)))
 
   key_item_agree : Agree n m (key_item n) (key_item m)
   unfolding key_item

@@ -2,7 +2,7 @@
 use Rattle.std.proofs.Common.{◌≡◌, ℕ, zero, suc, List, [], ◌∷◌, ◌++◌, Option, Some, None, sym, subst}
 use Rattle.std.proofs.lemmas.List.{append-nil}
 use Rattle.gr_meets.specs.Parsers.{Parser, ◌>>=◌, ◌>>◌, pure, peek, enclosed, separated}
-use Rattle.gr_meets.specs.Languages.{Read, Meets}
+use Rattle.gr_meets.specs.LanguageWords.{Read, Meets}
 use Rattle.gr_meets.specs.Lists.{Separated, Enclosed}
 use Rattle.gr_meets.proofs.Meets.{weaken, meets_pure, look_meets, skip_then, expect_then, bind, value_then, value_meets, peek_means}
 use Rattle.gr_meets.proofs.Commas.{separated_meets, enclosed_meets}
@@ -12,9 +12,10 @@ use Rattle.gr_syntax.specs.declared.syntax.Expr.{Expr}
 use Rattle.gr_syntax.specs.declared.syntax.Expr.TheVariants as tree
 use Rattle.gr_syntax.specs.declared.syntax.CallText.{CallText}
 use Rattle.gr_text.specs.declared.token.Sign.TheVariants as signs
-use Rattle.gr_parse.specs.Tok.{Tok, is_sign, name_of, number_of}
-use Rattle.gr_parse.specs.Operands.{Toks, name, number, semicolon, expr, args, some_name, reducer, call_of, operation, method, call}
-use Rattle.gr_parse.specs.Grammar.{IsExpr, IsName, IsNumber, IsArgs, IsObject, IsOperation, IsCall}
+use Rattle.gr_parse.specs.Tok.{Tok, is_sign, Toks}
+use Rattle.gr_parse.specs.TokWords.{name_of, number_of}
+use Rattle.gr_parse.specs.OperandsWords.{name, number, semicolon, expr, args, some_name, reducer, operation, method, call}
+use Rattle.gr_parse.specs.Grammar.{call_of, IsExpr, IsName, IsNumber, IsArgs, IsObject, IsOperation, IsCall}
 use Rattle.gr_parse.proofs.TokenTests.{sign_test, missing_test, name_is, number_is, object_is}
 use Rattle.gr_parse.proofs.Exprs.{expr_meets, nought, nought_is}
 

@@ -1,7 +1,7 @@
 -- Names, numbers, arguments and calls: what is spelled is read, and enough turns are enough.
 use Rattle.std.proofs.Common.{◌≡◌, ℕ, zero, suc, ◌<◌, false, List, [], ◌∷◌, ◌++◌, length, Some, None, Ok, refl, sym, subst, append_assoc, arith}
 use Rattle.gr_meets.specs.Parsers.{Outcome, Parser, ◌>>=◌, ◌>>◌, pure, next, peek, sees, enclosed, separated}
-use Rattle.gr_meets.specs.Languages.{Completes, Agree, Shortens}
+use Rattle.gr_meets.specs.LanguageWords.{Completes, Agree, Shortens}
 use Rattle.gr_meets.specs.Lists.{Separated, Enclosed}
 use Rattle.gr_meets.proofs.Completes.{then_reads, expect_reads, look_reads, value_reads, value_is, completes_weaken}
 use Rattle.gr_meets.proofs.Agrees.{agree_self, agree_bind, agree_expect, agree_value, shortens}
@@ -13,9 +13,10 @@ use Rattle.gr_syntax.specs.declared.syntax.Expr.TheVariants as tree
 use Rattle.gr_syntax.specs.declared.syntax.CallText.{CallText}
 use Rattle.gr_text.specs.declared.token.Keyword.{Keyword}
 use Rattle.gr_text.specs.declared.token.Sign.TheVariants as signs
-use Rattle.gr_parse.specs.Tok.{Tok, is_sign, same_sign, name_of, number_of, object_of, sign_of, operator}
-use Rattle.gr_parse.specs.Operands.{Toks, name, number, semicolon, expr, args, some_name, reducer, call_of, operation, method, call}
-use Rattle.gr_parse.specs.Grammar.{IsUnary, IsLevel, IsComparison, IsExpr, IsName, IsNumber, IsArgs, IsOperation, IsCall}
+use Rattle.gr_parse.specs.Tok.{Tok, is_sign, same_sign, sign_of, Toks}
+use Rattle.gr_parse.specs.TokWords.{name_of, number_of, object_of, operator}
+use Rattle.gr_parse.specs.OperandsWords.{name, number, semicolon, expr, args, some_name, reducer, operation, method, call}
+use Rattle.gr_parse.specs.Grammar.{call_of, IsUnary, IsLevel, IsComparison, IsExpr, IsName, IsNumber, IsArgs, IsOperation, IsCall}
 use Rattle.gr_parse.proofs.TokenTests.{sign_test, missing_test, object_means}
 use Rattle.gr_parse.proofs.Exprs.{expr_meets, nought, nought_is}
 use Rattle.gr_parse.proofs.Complete.{Any, NoOperator, expr_completes}
@@ -39,11 +40,11 @@ unary_begins (IsUnary.group h) rest = BeginsExpr.bracket
 level_begins : {d l n : ℕ} {ts : Toks} {x : Expr} → IsLevel d l ts x n → (rest : Toks) → BeginsExpr (ts ++ rest)
 level_begins (IsLevel.unary h) rest = unary_begins h rest
 level_begins (IsLevel.tighter h) rest = level_begins h rest
-level_begins (IsLevel.two {a} {b} o at h k) rest = subst BeginsExpr (sym (append_assoc a (Tok.sign (sign_of o) ∷ b) rest)) (level_begins h (Tok.sign (sign_of o) ∷ (b ++ rest)))
+level_begins (IsLevel.two {front = a} {back = b} o at h k) rest = subst BeginsExpr (sym (append_assoc a (Tok.sign (sign_of o) ∷ b) rest)) (level_begins h (Tok.sign (sign_of o) ∷ (b ++ rest)))
 
 comparison_begins : {d n : ℕ} {ts : Toks} {x : Expr} → IsComparison d ts x n → (rest : Toks) → BeginsExpr (ts ++ rest)
 comparison_begins (IsComparison.one h) rest = level_begins h rest
-comparison_begins (IsComparison.compared {a} {b} o at h k) rest = subst BeginsExpr (sym (append_assoc a (Tok.sign (sign_of o) ∷ b) rest)) (level_begins h (Tok.sign (sign_of o) ∷ (b ++ rest)))
+comparison_begins (IsComparison.compared {front = a} {back = b} o at h k) rest = subst BeginsExpr (sym (append_assoc a (Tok.sign (sign_of o) ∷ b) rest)) (level_begins h (Tok.sign (sign_of o) ∷ (b ++ rest)))
 
 pub expr_begins : {d : ℕ} {ts : Toks} {x : Expr} → IsExpr d ts x → (rest : Toks) → BeginsExpr (ts ++ rest)
 expr_begins h rest = comparison_begins h.spelled rest
@@ -160,7 +161,7 @@ args_missing n rest = expect_reads missing_test (pure []) rest refl
 
 args_read : {d : ℕ} {ts : Toks} {xs : List Expr} → IsArgs d ts xs → (n : ℕ) (rest : Toks) → length (ts ++ rest) < n → args n d (ts ++ rest) ≡ Ok (xs, rest)
 args_read IsArgs.missing n rest few = args_missing n rest
-args_read (IsArgs.brackets {d} {ts} {xs} h) n rest few = args_deep n d (ts ++ rest) (Ok (xs, rest)) ((exprs_complete n d).reads ts xs h rest tt (omega (arith, few)))
+args_read (IsArgs.brackets {depth = d} {inside = ts} {args = xs} h) n rest few = args_deep n d (ts ++ rest) (Ok (xs, rest)) ((exprs_complete n d).reads ts xs h rest tt (omega (arith, few)))
 
 pub args_complete : (n d : ℕ) → Completes n (args n d) (IsArgs d) Any
 args_complete n d = record { reads = λ ts xs h rest f few. args_read h n rest few }
@@ -177,11 +178,11 @@ reducer_is n ts = refl
 
 operation_read : {d : ℕ} {object : Name} {ts : Toks} {c : CallText} → IsOperation d object ts c → (n : ℕ) (rest : Toks) → length (ts ++ rest) < n → operation n d object (ts ++ rest) ≡ Ok (c, rest)
 unfolding operation
-operation_read (IsOperation.plain {d} {object} {op} {ts} {xs} h) n rest few =
+operation_read (IsOperation.plain {depth = d} {object} {op} {inside = ts} {args = xs} h) n rest few =
     name_reads op (λ op. reducer >>= λ r. args n d >>= λ xs. pure (call_of object op r xs)) (ts ++ rest)
     (then_reads (λ r. args n d >>= λ xs. pure (call_of object op r xs)) (no_reducer (ts ++ rest) (no_name (args_begin h rest)))
     (then_reads (λ xs. pure (call_of object op None xs)) (args_read h n rest (omega (arith, few))) refl))
-operation_read (IsOperation.reducing {d} {object} {op} {by} {ts} {xs} h) n rest few =
+operation_read (IsOperation.reducing {depth = d} {object} {op} {reducer = by} {inside = ts} {args = xs} h) n rest few =
     name_reads op (λ op. reducer >>= λ r. args n d >>= λ xs. pure (call_of object op r xs)) (Tok.name by ∷ (ts ++ rest))
     (then_reads (λ r. args n d >>= λ xs. pure (call_of object op r xs)) (reducer_is by (ts ++ rest))
     (then_reads (λ xs. pure (call_of object op (Some by) xs)) (args_read h n rest (omega (arith, few))) refl))
@@ -196,7 +197,7 @@ method_reads {d} {object} {ts} {c} h n rest few = expect_reads (sign_test signs.
 
 call_read : {d : ℕ} {ts : Toks} {c : CallText} → IsCall d ts c → (n : ℕ) (rest : Toks) → length (ts ++ rest) < n → call n d (ts ++ rest) ≡ Ok (c, rest)
 unfolding call
-call_read (IsCall.call {d} {t} {object} {ts} {c} o h) n rest few = value_reads object_of (method n d) (Tok.sign signs.Dot ∷ (ts ++ rest)) (object_means o) (method_reads h n rest (omega (arith, few)))
+call_read (IsCall.call {depth = d} {token = t} {object} {inside = ts} {done = c} o h) n rest few = value_reads object_of (method n d) (Tok.sign signs.Dot ∷ (ts ++ rest)) (object_means o) (method_reads h n rest (omega (arith, few)))
 
 pub call_completes : (n d : ℕ) → Completes n (call n d) (IsCall d) Any
 call_completes n d = record { reads = λ ts c h rest f few. call_read h n rest few }

@@ -2,8 +2,9 @@
 use Rattle.std.proofs.Common.{◌≡◌, ℕ, zero, suc, ◌+◌, ◌-◌, ◌<◌, false, [], ◌∷◌, ◌++◌, length, Some, None, Ok, Err, refl, sym, ap, subst, ◌∙◌, append_assoc, arith}
 use Rattle.std.proofs.lemmas.List.{length-append}
 use Rattle.gr_meets.specs.Parsers.{Outcome, Parser, and_then, ◌>>=◌, ◌>>◌, pure, skip, next, expect, either, peek, sees, spend, go_on, levels, onward}
-use Rattle.gr_meets.specs.Languages.{Meets, Completes}
-use Rattle.gr_meets.specs.Lists.{Spends, Loose}
+use Rattle.gr_meets.specs.LanguageWords.{Meets, Completes}
+use Rattle.gr_meets.specs.Lists.{Spends}
+use Rattle.gr_meets.specs.ListsWords.{Loose}
 use Rattle.gr_meets.proofs.Completes.{then_reads, expect_reads, either_first, either_second, look_reads, value_reads}
 use Rattle.gr_meets.proofs.Levels.{levels_completes, levels_are}
 use Rattle.gr_syntax.specs.declared.syntax.BinOp.{BinOp}
@@ -11,8 +12,10 @@ use Rattle.gr_syntax.specs.declared.syntax.Expr.{Expr}
 use Rattle.gr_syntax.specs.declared.syntax.Expr.TheVariants as tree
 use Rattle.gr_text.specs.declared.token.Sign.{Sign}
 use Rattle.gr_text.specs.declared.token.Sign.TheVariants as signs
-use Rattle.gr_parse.specs.Tok.{Tok, is_sign, same_sign, sign_of, level_of, atom_of, operator}
-use Rattle.gr_parse.specs.Operands.{Toks, Counted, negation, two, atom, comparing, comparison, group, unary, expr, expr_from, loosest, max_signs}
+use Rattle.gr_parse.specs.Tok.{Tok, is_sign, same_sign, sign_of, level_of, Toks}
+use Rattle.gr_parse.specs.TokWords.{atom_of, operator}
+use Rattle.gr_parse.specs.OperandsWords.{Counted, negation, two, atom, comparing, comparison, group, unary, expr, expr_from}
+use Rattle.gr_parse.specs.declared.limits.TheConstants.{LOOSEST, MAX_SIGNS}
 use Rattle.gr_parse.specs.Grammar.{IsUnary, IsLevel, IsComparison, IsExpr}
 use Rattle.gr_parse.proofs.TokenTests.{sign_test, operator_is, operator_own, operator_other}
 use Rattle.gr_parse.proofs.Exprs.{to_levels, unary_meets}
@@ -24,7 +27,7 @@ Any rest = Unit {0}
 
 -- No binary sign comes next.
 abbrev pub NoOperator : Toks → Type 0
-NoOperator rest = Loose operator (suc loosest) rest
+NoOperator rest = Loose operator (suc LOOSEST) rest
 
 pub operator_none : (g : Sign) (rest : Toks) → ((i : ℕ) → operator i (Tok.sign g) ≡ None) → NoOperator (Tok.sign g ∷ rest)
 unfolding peek
@@ -45,25 +48,25 @@ module _ (n : ℕ) (u : ℕ → Parser Tok Counted) (d : ℕ) (reads : (b : ℕ)
   level_reads {l} {m} {ts} {x} h b k sum rest f few =
       (levels_completes operator two u (IsUnary d) reads n Any c (λ l t o rest e. tt) apart l b).reads ts (x, k) (record { signs = m; spelled = to_levels h; sum = sum }) rest (tt, f) few
 
-  compare_stops : (x : Counted) (rest : Toks) → peek (operator loosest) rest ≡ None → comparing u x rest ≡ Ok (x, rest)
+  compare_stops : (x : Counted) (rest : Toks) → peek (operator LOOSEST) rest ≡ None → comparing u x rest ≡ Ok (x, rest)
   unfolding comparing
-  compare_stops x rest h = look_reads (operator loosest) (go_on (pure x) (λ o. spend x.1 (λ b. skip >> (levels operator two u loosest b >>= λ y. pure (two o x.0 y.0, y.1))))) h refl
+  compare_stops x rest h = look_reads (operator LOOSEST) (go_on (pure x) (λ o. spend x.1 (λ b. skip >> (levels operator two u LOOSEST b >>= λ y. pure (two o x.0 y.0, y.1))))) h refl
 
-  compare_goes : (x y : Expr) (b k : ℕ) (o : BinOp) (us rest : Toks) → level_of o ≡ loosest → levels operator two u loosest b us ≡ Ok ((y, k), rest) → comparing u (x, suc b) (Tok.sign (sign_of o) ∷ us) ≡ Ok ((tree.Two o x y, k), rest)
+  compare_goes : (x y : Expr) (b k : ℕ) (o : BinOp) (us rest : Toks) → level_of o ≡ LOOSEST → levels operator two u LOOSEST b us ≡ Ok ((y, k), rest) → comparing u (x, suc b) (Tok.sign (sign_of o) ∷ us) ≡ Ok ((tree.Two o x y, k), rest)
   unfolding comparing peek next
   compare_goes x y b k o us rest at h =
-      ap (λ v. go_on (pure (x, suc b)) (λ o. spend (suc b) (λ b. skip >> (levels operator two u loosest b >>= λ y. pure (two o x y.0, y.1)))) v (Tok.sign (sign_of o) ∷ us)) (operator_own loosest o at)
+      ap (λ v. go_on (pure (x, suc b)) (λ o. spend (suc b) (λ b. skip >> (levels operator two u LOOSEST b >>= λ y. pure (two o x y.0, y.1)))) v (Tok.sign (sign_of o) ∷ us)) (operator_own LOOSEST o at)
       ∙ ap (λ v. and_then v (λ y. pure (two o x y.0, y.1))) h
 
   pub comparison_reads : {m : ℕ} {ts : Toks} {x : Expr} → IsComparison d ts x m → (b k : ℕ) → m + k ≡ b → (rest : Toks) → NoOperator rest → length (ts ++ rest) < n → comparison u b (ts ++ rest) ≡ Ok ((x, k), rest)
   unfolding comparison peek
-  comparison_reads (IsComparison.one {n = m} {ts} {x} h) b k sum rest f few =
-      then_reads (comparing u) (level_reads h b k sum rest (λ i j. f i (omega (arith, j))) few) (compare_stops (x, k) rest (f loosest (omega arith)))
-  comparison_reads (IsComparison.compared {n = p} {m = q} {a} {b = e} {x} {y} o at h g) b k sum rest f few =
+  comparison_reads (IsComparison.one {count = m} {inside = ts} {inner = x} h) b k sum rest f few =
+      then_reads (comparing u) (level_reads h b k sum rest (λ i j. f i (omega (arith, j))) few) (compare_stops (x, k) rest (f LOOSEST (omega arith)))
+  comparison_reads (IsComparison.compared {count = p} {more = q} {front = a} {back = e} {left = x} {right = y} o at h g) b k sum rest f few =
       let cut : (a ++ Tok.sign (sign_of o) ∷ e) ++ rest ≡ a ++ Tok.sign (sign_of o) ∷ (e ++ rest) = append_assoc a (Tok.sign (sign_of o) ∷ e) rest in
       let size : length ((a ++ Tok.sign (sign_of o) ∷ e) ++ rest) ≡ length a + suc (length (e ++ rest)) = ap length cut ∙ length-append a (Tok.sign (sign_of o) ∷ (e ++ rest)) in
       ap (comparison u b) cut
-      ∙ then_reads (comparing u) (level_reads h b (suc (q + k)) (omega (arith, sum)) (Tok.sign (sign_of o) ∷ (e ++ rest)) (λ i j. operator_other i loosest o at j) (subst (λ (v : Toks). length v < n) cut few))
+      ∙ then_reads (comparing u) (level_reads h b (suc (q + k)) (omega (arith, sum)) (Tok.sign (sign_of o) ∷ (e ++ rest)) (λ i j. operator_other i LOOSEST o at j) (subst (λ (v : Toks). length v < n) cut few))
       (compare_goes x y (q + k) k o (e ++ rest) rest at (level_reads g (q + k) k refl rest (λ i j. f i (omega (arith, j))) (omega (arith, few, size))))
 
 -- ---- operands
@@ -101,10 +104,10 @@ abbrev Below : ℕ → ℕ → Type 0
 Below n d = (e : ℕ) → d ≡ suc e → (b : ℕ) → Completes n (unary e b) (Spends (IsUnary e) b) Any
 
 unary_reads : {d m : ℕ} {ts : Toks} {x : Expr} → IsUnary d ts x m → (n : ℕ) → Below n d → (b k : ℕ) → m + k ≡ b → (rest : Toks) → length (ts ++ rest) < n → unary d b (ts ++ rest) ≡ Ok ((x, k), rest)
-unary_reads (IsUnary.number {d} {v}) n below b k sum rest few = let same : b ≡ k = omega (arith, sum) in first_reads d (Tok.number v) (tree.Lit v) b rest refl ∙ ap (λ (q : ℕ). Ok ((tree.Lit v, q), rest)) same
-unary_reads (IsUnary.local {d} {v}) n below b k sum rest few = let same : b ≡ k = omega (arith, sum) in first_reads d (Tok.name v) (tree.Local v) b rest refl ∙ ap (λ (q : ℕ). Ok ((tree.Local v, q), rest)) same
-unary_reads (IsUnary.not {d} {n = m} {ts} {x} h) n below b k sum rest few = reads_not d b (x, k) (ts ++ rest) rest ((below d refl b).reads ts (x, k) (record { signs = m; spelled = h; sum = sum }) rest tt (omega (arith, few)))
-unary_reads (IsUnary.group {d} {n = m} {ts} {x} h) n below b k sum rest few =
+unary_reads (IsUnary.number {depth = d} {value = v}) n below b k sum rest few = let same : b ≡ k = omega (arith, sum) in first_reads d (Tok.number v) (tree.Lit v) b rest refl ∙ ap (λ (q : ℕ). Ok ((tree.Lit v, q), rest)) same
+unary_reads (IsUnary.local {depth = d} {name = v}) n below b k sum rest few = let same : b ≡ k = omega (arith, sum) in first_reads d (Tok.name v) (tree.Local v) b rest refl ∙ ap (λ (q : ℕ). Ok ((tree.Local v, q), rest)) same
+unary_reads (IsUnary.not {depth = d} {count = m} {inside = ts} {inner = x} h) n below b k sum rest few = reads_not d b (x, k) (ts ++ rest) rest ((below d refl b).reads ts (x, k) (record { signs = m; spelled = h; sum = sum }) rest tt (omega (arith, few)))
+unary_reads (IsUnary.group {depth = d} {count = m} {inside = ts} {inner = x} h) n below b k sum rest few =
     let cut : (ts ++ Tok.sign signs.RightParen ∷ []) ++ rest ≡ ts ++ Tok.sign signs.RightParen ∷ rest = append_assoc ts (Tok.sign signs.RightParen ∷ []) rest in
     reads_group d b (x, k) ((ts ++ Tok.sign signs.RightParen ∷ []) ++ rest) rest
     (ap (comparison (unary d) b) cut ∙ comparison_reads n (unary d) d (unary_meets d) (below d refl) h b k sum (Tok.sign signs.RightParen ∷ rest) (paren_none rest) (omega (arith, few, ap length cut)))
@@ -124,8 +127,8 @@ unary_completes n (suc d) b = record {
 expr_reads : (n d : ℕ) (ts : Toks) (x : Expr) → IsExpr d ts x → (rest : Toks) → NoOperator rest → length (ts ++ rest) < n → expr d (ts ++ rest) ≡ Ok (x, rest)
 unfolding expr
 expr_reads n d ts x h rest f few =
-    let left : ℕ = max_signs - h.signs in
-    then_reads (λ x. pure x.0) (comparison_reads n (unary d) d (unary_meets d) (unary_completes n d) h.spelled max_signs left (omega (arith, h.few)) rest f few) refl
+    let left : ℕ = MAX_SIGNS - h.count in
+    then_reads (λ x. pure x.0) (comparison_reads n (unary d) d (unary_meets d) (unary_completes n d) h.spelled MAX_SIGNS left (omega (arith, h.few)) rest f few) refl
 
 pub expr_completes : (n d : ℕ) → Completes n (expr d) (IsExpr d) NoOperator
 expr_completes n d = record { reads = λ ts x h rest f few. expr_reads n d ts x h rest f few }
@@ -138,8 +141,8 @@ first_then (Err n) p q = refl
 pub expr_first : (d : ℕ) (t : Tok) (x : Expr) (ts : Toks) → atom_of t ≡ Some x → expr d (t ∷ ts) ≡ expr_from d x ts
 unfolding expr expr_from comparison
 expr_first d t x ts h =
-    ap (λ o. and_then (and_then o (comparing (unary d))) (λ z. pure z.0)) (levels_are operator two (unary d) loosest max_signs (t ∷ ts) ∙ ap (λ o. and_then o (onward operator two (unary d) loosest)) (first_reads d t x max_signs ts h))
-    ∙ first_then (onward operator two (unary d) loosest (x, max_signs) ts) (comparing (unary d)) (λ z. pure z.0)
+    ap (λ o. and_then (and_then o (comparing (unary d))) (λ z. pure z.0)) (levels_are operator two (unary d) LOOSEST MAX_SIGNS (t ∷ ts) ∙ ap (λ o. and_then o (onward operator two (unary d) LOOSEST)) (first_reads d t x MAX_SIGNS ts h))
+    ∙ first_then (onward operator two (unary d) LOOSEST (x, MAX_SIGNS) ts) (comparing (unary d)) (λ z. pure z.0)
 
 -- What goes on behind the first token of an expression is read.
 pub expr_from_completes : (n d : ℕ) (t : Tok) (x : Expr) → atom_of t ≡ Some x → Completes n (expr_from d x) (λ ts y. IsExpr d (t ∷ ts) y) NoOperator

@@ -2,8 +2,9 @@
 use Rattle.std.proofs.Common.{◌≡◌, ℕ, zero, suc, ◌+◌, ◌≤◌, [], ◌∷◌, ◌++◌, Option, Some, None, Ok, refl, sym, subst, arith}
 use Rattle.std.proofs.lemmas.List.{append-nil}
 use Rattle.gr_meets.specs.Parsers.{Parser, ◌>>=◌, ◌>>◌, pure, skip, peek, spend, go_on, levels}
-use Rattle.gr_meets.specs.Languages.{Read, Meets}
-use Rattle.gr_meets.specs.Lists.{Chained, Spends, Levels, Onward}
+use Rattle.gr_meets.specs.LanguageWords.{Read, Meets}
+use Rattle.gr_meets.specs.Lists.{Chained, Spends, Levels}
+use Rattle.gr_meets.specs.ListsWords.{Onward}
 use Rattle.gr_meets.proofs.Meets.{weaken, meets_pure, read_refuse, look_meets, skip_then, expect_then, either_meets, bind, value_then, peek_means}
 use Rattle.gr_meets.proofs.Levels.{levels_meets, onward_meets}
 use Rattle.gr_meets.proofs.Chains.{spends_less}
@@ -12,8 +13,10 @@ use Rattle.gr_syntax.specs.declared.syntax.Number.{Number}
 use Rattle.gr_syntax.specs.declared.syntax.Expr.{Expr}
 use Rattle.gr_syntax.specs.declared.syntax.Expr.TheVariants as tree
 use Rattle.gr_text.specs.declared.token.Sign.TheVariants as signs
-use Rattle.gr_parse.specs.Tok.{Tok, sign_of, atom_of, operator}
-use Rattle.gr_parse.specs.Operands.{Toks, Counted, negation, two, atom, comparing, comparison, group, unary, expr, expr_from, loosest, max_signs}
+use Rattle.gr_parse.specs.Tok.{Tok, sign_of, Toks}
+use Rattle.gr_parse.specs.TokWords.{atom_of, operator}
+use Rattle.gr_parse.specs.OperandsWords.{Counted, negation, two, atom, comparing, comparison, group, unary, expr, expr_from}
+use Rattle.gr_parse.specs.declared.limits.TheConstants.{LOOSEST, MAX_SIGNS}
 use Rattle.gr_parse.specs.Grammar.{IsUnary, IsLevel, IsComparison, IsExpr}
 use Rattle.gr_parse.proofs.TokenTests.{sign_test, operator_is, operator_own, IsOperator}
 
@@ -21,8 +24,8 @@ use Rattle.gr_parse.proofs.TokenTests.{sign_test, operator_is, operator_own, IsO
 
 module _ (d : ℕ) where
   chained_level : (l : ℕ) (E : Toks → Expr → ℕ → Type 0) → ((ts : Toks) (x : Expr) (n : ℕ) → E ts x n → IsLevel d l ts x n) → {ts : Toks} {x : Expr} {n : ℕ} → Chained (operator l) two E ts x n → IsLevel d (suc l) ts x n
-  chained_level l E f (Chained.one {ts} {x} {n} h) = IsLevel.tighter (f ts x n h)
-  chained_level l E f (Chained.pair {a} {b} {x} {y} {n} {m} {o} t h e k) =
+  chained_level l E f (Chained.one {inside = ts} {inner = x} {count = n} h) = IsLevel.tighter (f ts x n h)
+  chained_level l E f (Chained.pair {front = a} {back = b} {left = x} {right = y} {count = n} {more = m} {op = o} t h e k) =
       let i = operator_is l o t e in
       subst (λ (q : Tok). IsLevel d (suc l) (a ++ q ∷ b) (tree.Two o x y) (suc (n + m))) (sym i.is) (IsLevel.two o i.at (chained_level l E f h) (f b y m k))
 
@@ -33,24 +36,24 @@ module _ (d : ℕ) where
 pub to_levels : {d l n : ℕ} {ts : Toks} {x : Expr} → IsLevel d l ts x n → Levels operator two (IsUnary d) l ts x n
 to_levels (IsLevel.unary h) = h
 to_levels (IsLevel.tighter h) = Chained.one (to_levels h)
-to_levels (IsLevel.two {l} o at h k) = Chained.pair (Tok.sign (sign_of o)) (to_levels h) (operator_own l o at) (to_levels k)
+to_levels (IsLevel.two {level = l} o at h k) = Chained.pair (Tok.sign (sign_of o)) (to_levels h) (operator_own l o at) (to_levels k)
 
 spends_level : (d l b : ℕ) (ts : Toks) (x : Counted) → Spends (Levels operator two (IsUnary d) l) b ts x → Spends (IsLevel d l) b ts x
 spends_level d l b ts x h = record { signs = h.signs; spelled = from_levels d l ts x.0 h.signs h.spelled; sum = h.sum }
 
 -- ---- all operators
 
-pub comparison_one : {d b : ℕ} {ts : Toks} {x : Counted} → Spends (IsLevel d loosest) b ts x → Spends (IsComparison d) b ts x
+pub comparison_one : {d b : ℕ} {ts : Toks} {x : Counted} → Spends (IsLevel d LOOSEST) b ts x → Spends (IsComparison d) b ts x
 comparison_one h = record { signs = h.signs; spelled = IsComparison.one h.spelled; sum = h.sum }
 
 -- What goes on behind a first operand of a comparison.
 abbrev pub Compared : ℕ → ℕ → Counted → Toks → Counted → Type 0
-Compared d total x c y = (a : Toks) → Spends (IsLevel d loosest) total a x → Spends (IsComparison d) total (a ++ c) y
+Compared d total x c y = (a : Toks) → Spends (IsLevel d LOOSEST) total a x → Spends (IsComparison d) total (a ++ c) y
 
 alone : (d total : ℕ) (x : Counted) → Compared d total x [] x
 alone d total x a f = subst (λ (u : Toks). Spends (IsComparison d) total u x) (sym (append-nil a)) (comparison_one f)
 
-spends_compared : (d total b : ℕ) (a c : Toks) (x : Expr) (y : Counted) (o : BinOp) (t : Tok) → Spends (IsLevel d loosest) total a (x, suc b) → IsOperator loosest o t → Spends (IsLevel d loosest) b c y
+spends_compared : (d total b : ℕ) (a c : Toks) (x : Expr) (y : Counted) (o : BinOp) (t : Tok) → Spends (IsLevel d LOOSEST) total a (x, suc b) → IsOperator LOOSEST o t → Spends (IsLevel d LOOSEST) b c y
     → Spends (IsComparison d) total (a ++ t ∷ (c ++ [])) (tree.Two o x y.0, y.1)
 spends_compared d total b a c x y o t f i g =
     let all : Spends (IsComparison d) total (a ++ Tok.sign (sign_of o) ∷ c) (tree.Two o x y.0, y.1) = record { signs = suc (f.signs + g.signs); spelled = IsComparison.compared o i.at f.spelled g.spelled; sum = omega (arith, f.sum, g.sum) } in
@@ -62,32 +65,32 @@ module _ (u : ℕ → Parser Tok Counted) (d : ℕ) (reads : (b : ℕ) → Meets
   levels_spend l b = weaken (levels_meets operator two u (IsUnary d) reads l b) (λ ts x h. spends_level d l b ts x h) (λ ts x h. spends_level d l b ts x h)
 
   second : Counted → BinOp → ℕ → Parser Tok Counted
-  second x o b = levels operator two u loosest b >>= λ y. pure (two o x.0 y.0, y.1)
+  second x o b = levels operator two u LOOSEST b >>= λ y. pure (two o x.0 y.0, y.1)
 
   compare_way : Counted → Option BinOp → Parser Tok Counted
   compare_way x = go_on (pure x) (λ o. spend x.1 (λ b. skip >> second x o b))
 
   module _ (total : ℕ) where
-    compare_read : (x : Counted) (o : Option BinOp) (ts : Toks) → peek (operator loosest) ts ≡ o → Read (compare_way x o) (Compared d total x) (Compared d total x) ts (compare_way x o ts)
+    compare_read : (x : Counted) (o : Option BinOp) (ts : Toks) → peek (operator LOOSEST) ts ≡ o → Read (compare_way x o) (Compared d total x) (Compared d total x) ts (compare_way x o ts)
     unfolding compare_way second
     compare_read x None ts h = (meets_pure {L = Compared d total x} {W = Compared d total x} (alone d total x)).at ts
     compare_read (x, zero) (Some o) ts h = read_refuse (Compared d total (x, 0)) (Compared d total (x, 0)) ts [] (x, 0) (alone d total (x, 0))
     compare_read (x, suc b) (Some o) ts h =
-        let m = peek_means (operator loosest) o ts h in
-        let i = operator_is loosest o m.token m.means in
+        let m = peek_means (operator LOOSEST) o ts h in
+        let i = operator_is LOOSEST o m.token m.means in
         let K : Toks → Counted → Type 0 = λ c z. Compared d total (x, suc b) (m.token ∷ c) z in
         skip_then m.token (second (x, suc b) o b) (Compared d total (x, suc b)) (Compared d total (x, suc b)) ts m.heads
-        (bind {K = K} {W = K} (levels_spend loosest b)
+        (bind {K = K} {W = K} (levels_spend LOOSEST b)
         (λ y. meets_pure (λ c g a f. spends_compared d total b a c x y o m.token f i g))
         (λ c y g. ([], (tree.Two o x y.0, y.1), λ a f. spends_compared d total b a c x y o m.token f i g)))
 
     pub comparing_meets : (x : Counted) → Meets (comparing u x) (Compared d total x) (Compared d total x)
     unfolding comparing compare_way second
-    comparing_meets x = look_meets (operator loosest) (compare_way x) (compare_read x)
+    comparing_meets x = look_meets (operator LOOSEST) (compare_way x) (compare_read x)
 
   pub comparison_meets : (b : ℕ) → Meets (comparison u b) (Spends (IsComparison d) b) (Spends (IsComparison d) b)
   unfolding comparison
-  comparison_meets b = bind (levels_spend loosest b)
+  comparison_meets b = bind (levels_spend LOOSEST b)
       (λ x. weaken (comparing_meets b x) (λ c y h a f. h a f) (λ c y h a f. h a f))
       (λ a x f. ([], x, alone d b x a f))
 
@@ -132,31 +135,31 @@ unary_meets (suc d) b =
 
 -- ---- expressions
 
-made : (d : ℕ) (a : Toks) (x : Counted) → Spends (IsComparison d) max_signs a x → IsExpr d a x.0
-made d a x h = record { signs = h.signs; spelled = h.spelled; few = omega (arith, h.sum) }
+made : (d : ℕ) (a : Toks) (x : Counted) → Spends (IsComparison d) MAX_SIGNS a x → IsExpr d a x.0
+made d a x h = record { count = h.signs; spelled = h.spelled; few = omega (arith, h.sum) }
 
 pub expr_meets : (d : ℕ) → Meets (expr d) (IsExpr d) (IsExpr d)
 unfolding expr
-expr_meets d = bind (comparison_meets (unary d) d (unary_meets d) max_signs)
+expr_meets d = bind (comparison_meets (unary d) d (unary_meets d) MAX_SIGNS)
     (λ x. meets_pure (λ a h. subst (λ (v : Toks). IsExpr d v x.0) (sym (append-nil a)) (made d a x h)))
     (λ a x h. ([], x.0, subst (λ (v : Toks). IsExpr d v x.0) (sym (append-nil a)) (made d a x h)))
 
 -- An expression of one number.
 pub nought_is : (d : ℕ) → IsExpr d (Tok.number nought ∷ []) (tree.Lit nought)
-nought_is d = record { signs = 0; spelled = IsComparison.one (IsLevel.tighter (IsLevel.tighter (IsLevel.tighter (IsLevel.tighter (IsLevel.tighter (IsLevel.unary IsUnary.number)))))); few = omega arith }
+nought_is d = record { count = 0; spelled = IsComparison.one (IsLevel.tighter (IsLevel.tighter (IsLevel.tighter (IsLevel.tighter (IsLevel.tighter (IsLevel.unary IsUnary.number)))))); few = omega arith }
 
 module _ (d : ℕ) (t : Tok) (x : Expr) (h : atom_of t ≡ Some x) where
-  from_first : (a c : Toks) (y z : Counted) → Onward operator two (IsUnary d) loosest max_signs (x, max_signs) a y → Compared d max_signs y c z → IsExpr d (t ∷ (a ++ c)) z.0
-  from_first a c y z g k = made d (t ∷ (a ++ c)) z (k (t ∷ a) (spends_level d loosest max_signs (t ∷ a) y (g (t ∷ []) (atom_spends d max_signs t x h))))
+  from_first : (a c : Toks) (y z : Counted) → Onward operator two (IsUnary d) LOOSEST MAX_SIGNS (x, MAX_SIGNS) a y → Compared d MAX_SIGNS y c z → IsExpr d (t ∷ (a ++ c)) z.0
+  from_first a c y z g k = made d (t ∷ (a ++ c)) z (k (t ∷ a) (spends_level d LOOSEST MAX_SIGNS (t ∷ a) y (g (t ∷ []) (atom_spends d MAX_SIGNS t x h))))
 
   -- What goes on behind the first token of an expression.
   pub expr_from_meets : Meets (expr_from d x) (λ c y. IsExpr d (t ∷ c) y) (λ c y. IsExpr d (t ∷ c) y)
   unfolding expr_from
-  expr_from_meets = bind (onward_meets operator two (unary d) (IsUnary d) (unary_meets d) loosest max_signs (x, max_signs))
-      (λ y. bind (comparing_meets (unary d) d (unary_meets d) max_signs y)
-      (λ z. meets_pure (λ c k a g. from_first a (c ++ []) y z g (subst (λ (v : Toks). Compared d max_signs y v z) (sym (append-nil c)) k)))
-      (λ c z k. ([], z.0, λ a g. from_first a (c ++ []) y z g (subst (λ (v : Toks). Compared d max_signs y v z) (sym (append-nil c)) k))))
-      (λ a y g. ([], y.0, from_first a [] y y g (alone d max_signs y)))
+  expr_from_meets = bind (onward_meets operator two (unary d) (IsUnary d) (unary_meets d) LOOSEST MAX_SIGNS (x, MAX_SIGNS))
+      (λ y. bind (comparing_meets (unary d) d (unary_meets d) MAX_SIGNS y)
+      (λ z. meets_pure (λ c k a g. from_first a (c ++ []) y z g (subst (λ (v : Toks). Compared d MAX_SIGNS y v z) (sym (append-nil c)) k)))
+      (λ c z k. ([], z.0, λ a g. from_first a (c ++ []) y z g (subst (λ (v : Toks). Compared d MAX_SIGNS y v z) (sym (append-nil c)) k))))
+      (λ a y g. ([], y.0, from_first a [] y y g (alone d MAX_SIGNS y)))
 
 -- ---- measures
 

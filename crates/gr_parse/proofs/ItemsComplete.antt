@@ -1,8 +1,9 @@
 -- Items and programs: what is spelled is read.
 use Rattle.std.proofs.Common.{◌≡◌, ℕ, ◌<◌, true, false, List, [], ◌∷◌, ◌++◌, length, Ok, refl, ap, subst, ◌∙◌, append_assoc, arith}
 use Rattle.gr_meets.specs.Parsers.{◌>>=◌, ◌>>◌, pure, next, peek, sees, halts, expect, separated, enclosed}
-use Rattle.gr_meets.specs.Languages.{Completes}
-use Rattle.gr_meets.specs.Lists.{Separated, Enclosed, Begins}
+use Rattle.gr_meets.specs.LanguageWords.{Completes}
+use Rattle.gr_meets.specs.Lists.{Separated, Enclosed}
+use Rattle.gr_meets.specs.ListsWords.{Begins}
 use Rattle.gr_meets.proofs.Completes.{then_reads, expect_reads, reads_then}
 use Rattle.gr_meets.proofs.Runs.{run_completes}
 use Rattle.gr_syntax.specs.declared.syntax.Place.{Place}
@@ -13,9 +14,11 @@ use Rattle.gr_syntax.specs.declared.syntax.Item.{Item}
 use Rattle.gr_syntax.specs.declared.syntax.Item.TheVariants as items
 use Rattle.gr_text.specs.declared.token.Keyword.TheVariants as keys
 use Rattle.gr_text.specs.declared.token.Sign.TheVariants as signs
-use Rattle.gr_parse.specs.Tok.{Tok, is_sign, same_sign, same_key}
-use Rattle.gr_parse.specs.Operands.{Toks, max_nesting, name, number, semicolon}
-use Rattle.gr_parse.specs.Parsing.{array, named_item, heap_item, input, params, task, key_item, item, never, program, block}
+use Rattle.gr_parse.specs.Tok.{Tok, is_sign, same_sign, Toks}
+use Rattle.gr_parse.specs.TokWords.{same_key}
+use Rattle.gr_parse.specs.declared.limits.TheConstants.{MAX_NESTING}
+use Rattle.gr_parse.specs.OperandsWords.{name, number, semicolon}
+use Rattle.gr_parse.specs.ParsingWords.{array, named_item, heap_item, input, params, task, key_item, item, never, program, block}
 use Rattle.gr_parse.specs.Grammar.{IsName, IsNumber, IsBlock, IsItem, IsProgram}
 use Rattle.gr_parse.proofs.TokenTests.{sign_test}
 use Rattle.gr_parse.proofs.Complete.{Any}
@@ -95,23 +98,23 @@ params_read {ts} {ps} h n us rest few =
     expect_reads (sign_test signs.LeftParen) list ((ts ++ us) ++ rest)
     (ap list cut ∙ (params_list_completes n).reads ts ps h (us ++ rest) tt (subst (λ (u : Toks). length u < n) cut few))
 
-task_reads : {ts us : Toks} {ps : List Name} {xs : List Stmt} → Enclosed (Tok.sign signs.RightParen) (Tok.sign signs.Comma) IsName ts ps → IsBlock max_nesting us xs → (n : ℕ) (m : Name) (rest : Toks) → length ((ts ++ us) ++ rest) < n
+task_reads : {ts us : Toks} {ps : List Name} {xs : List Stmt} → Enclosed (Tok.sign signs.RightParen) (Tok.sign signs.Comma) IsName ts ps → IsBlock MAX_NESTING us xs → (n : ℕ) (m : Name) (rest : Toks) → length ((ts ++ us) ++ rest) < n
     → task n (Tok.name m ∷ (Tok.sign signs.LeftParen ∷ ((ts ++ us) ++ rest))) ≡ Ok (items.Task m ps xs, rest)
 unfolding task
 task_reads {ts} {us} {ps} {xs} h k n m rest few =
-    name_reads m (λ o. params n >>= λ ps. block n max_nesting >>= λ xs. pure (items.Task o ps xs)) (Tok.sign signs.LeftParen ∷ ((ts ++ us) ++ rest))
-    (then_reads (λ ps. block n max_nesting >>= λ xs. pure (items.Task m ps xs)) (params_read h n us rest few)
-    (then_reads (λ xs. pure (items.Task m ps xs)) ((block_completes n max_nesting).reads us xs k rest tt (behind_few n ts us rest few)) refl))
+    name_reads m (λ o. params n >>= λ ps. block n MAX_NESTING >>= λ xs. pure (items.Task o ps xs)) (Tok.sign signs.LeftParen ∷ ((ts ++ us) ++ rest))
+    (then_reads (λ ps. block n MAX_NESTING >>= λ xs. pure (items.Task m ps xs)) (params_read h n us rest few)
+    (then_reads (λ xs. pure (items.Task m ps xs)) ((block_completes n MAX_NESTING).reads us xs k rest tt (behind_few n ts us rest few)) refl))
 
 item_reads : {ts : Toks} {x : Item} → IsItem ts x → (n : ℕ) (rest : Toks) → length (ts ++ rest) < n → item n (ts ++ rest) ≡ Ok (x, rest)
-item_reads (IsItem.array {n = m} {w}) n rest few = with_array n (Tok.name m ∷ (Tok.sign signs.LeftBracket ∷ (Tok.number w ∷ (Tok.sign signs.RightBracket ∷ (Tok.sign signs.Semicolon ∷ rest))))) ∙ array_reads m w rest
-item_reads (IsItem.set {n = m}) n rest few = with_set n (Tok.name m ∷ (Tok.sign signs.Semicolon ∷ rest)) ∙ named_reads items.Set m rest
-item_reads (IsItem.map {n = m}) n rest few = with_map n (Tok.name m ∷ (Tok.sign signs.Semicolon ∷ rest)) ∙ named_reads items.Map m rest
-item_reads (IsItem.vector {n = m}) n rest few = with_vector n (Tok.name m ∷ (Tok.sign signs.Semicolon ∷ rest)) ∙ named_reads items.Vector m rest
-item_reads (IsItem.heap {at} {w}) n rest few = with_heap n at (Tok.number w ∷ (Tok.sign signs.Semicolon ∷ rest)) ∙ heap_reads w rest
-item_reads (IsItem.show {n = m}) n rest few = with_show n (Tok.name m ∷ (Tok.sign signs.Semicolon ∷ rest)) ∙ named_reads items.Show m rest
-item_reads (IsItem.input {n = m} {ts} {ws} h) n rest few = with_input n (Tok.name m ∷ (Tok.sign signs.Assign ∷ ((ts ++ Tok.sign signs.Semicolon ∷ []) ++ rest))) ∙ input_reads h n m rest (omega (arith, few))
-item_reads (IsItem.task {n = m} {ts} {us} {ps} {xs} h k) n rest few = with_task n (Tok.name m ∷ (Tok.sign signs.LeftParen ∷ ((ts ++ us) ++ rest))) ∙ task_reads h k n m rest (omega (arith, few))
+item_reads (IsItem.array {name = m} {size = w}) n rest few = with_array n (Tok.name m ∷ (Tok.sign signs.LeftBracket ∷ (Tok.number w ∷ (Tok.sign signs.RightBracket ∷ (Tok.sign signs.Semicolon ∷ rest))))) ∙ array_reads m w rest
+item_reads (IsItem.set {name = m}) n rest few = with_set n (Tok.name m ∷ (Tok.sign signs.Semicolon ∷ rest)) ∙ named_reads items.Set m rest
+item_reads (IsItem.map {name = m}) n rest few = with_map n (Tok.name m ∷ (Tok.sign signs.Semicolon ∷ rest)) ∙ named_reads items.Map m rest
+item_reads (IsItem.vector {name = m}) n rest few = with_vector n (Tok.name m ∷ (Tok.sign signs.Semicolon ∷ rest)) ∙ named_reads items.Vector m rest
+item_reads (IsItem.heap {at} {size = w}) n rest few = with_heap n at (Tok.number w ∷ (Tok.sign signs.Semicolon ∷ rest)) ∙ heap_reads w rest
+item_reads (IsItem.show {name = m}) n rest few = with_show n (Tok.name m ∷ (Tok.sign signs.Semicolon ∷ rest)) ∙ named_reads items.Show m rest
+item_reads (IsItem.input {name = m} {inside = ts} {values = ws} h) n rest few = with_input n (Tok.name m ∷ (Tok.sign signs.Assign ∷ ((ts ++ Tok.sign signs.Semicolon ∷ []) ++ rest))) ∙ input_reads h n m rest (omega (arith, few))
+item_reads (IsItem.task {name = m} {front = ts} {inside = us} {params = ps} {body = xs} h k) n rest few = with_task n (Tok.name m ∷ (Tok.sign signs.LeftParen ∷ ((ts ++ us) ++ rest))) ∙ task_reads h k n m rest (omega (arith, few))
 
 pub item_completes : (n : ℕ) → Completes n (item n) IsItem Any
 item_completes n = record { reads = λ ts x h rest f few. item_reads h n rest few }

@@ -2,7 +2,7 @@
 use Rattle.std.proofs.Common.{◌≡◌, ℕ, List, [], ◌∷◌, ◌++◌, Option, Some, None, refl, sym, subst}
 use Rattle.std.proofs.lemmas.List.{append-nil}
 use Rattle.gr_meets.specs.Parsers.{peek}
-use Rattle.gr_meets.specs.Languages.{Read, Meets}
+use Rattle.gr_meets.specs.LanguageWords.{Read, Meets}
 use Rattle.gr_meets.specs.Lists.{Separated, Enclosed}
 use Rattle.gr_meets.proofs.Meets.{weaken, meets_pure, meets_refuse, look_meets, skip_then, expect_then, either_meets, bind, peek_means}
 use Rattle.gr_meets.proofs.Runs.{run_meets}
@@ -13,9 +13,10 @@ use Rattle.gr_syntax.specs.declared.syntax.Item.{Item}
 use Rattle.gr_syntax.specs.declared.syntax.Item.TheVariants as items
 use Rattle.gr_text.specs.declared.token.Keyword.TheVariants as keys
 use Rattle.gr_text.specs.declared.token.Sign.TheVariants as signs
-use Rattle.gr_parse.specs.Tok.{Tok, heap_of}
-use Rattle.gr_parse.specs.Operands.{Toks, max_nesting}
-use Rattle.gr_parse.specs.Parsing.{array, named_item, heap_item, input, params, task, key_item, item_by, item, never, program}
+use Rattle.gr_parse.specs.Tok.{Tok, Toks}
+use Rattle.gr_parse.specs.TokWords.{heap_of}
+use Rattle.gr_parse.specs.declared.limits.TheConstants.{MAX_NESTING}
+use Rattle.gr_parse.specs.ParsingWords.{array, named_item, heap_item, input, params, task, key_item, item_by, item, never, program}
 use Rattle.gr_parse.specs.Grammar.{IsName, IsNumber, IsBlock, IsItem, IsProgram}
 use Rattle.gr_parse.proofs.TokenTests.{sign_test, key_test}
 use Rattle.gr_parse.proofs.Exprs.{nought}
@@ -75,17 +76,17 @@ unfolding params
 params_meets turns = expect_then (sign_test signs.LeftParen) (weaken (params_list_meets turns) (λ ts ps h. IsParams.brackets h) (λ ts ps h. IsParams.brackets h))
     (Tok.sign signs.RightParen ∷ []) [] (IsParams.brackets Enclosed.empty)
 
-task_made : {n : Name} {ts us : Toks} {ps : List Name} {xs : List Stmt} → IsParams ts ps → IsBlock max_nesting us xs → IsItem (Tok.key keys.Task ∷ (Tok.name n ∷ (ts ++ (us ++ [])))) (items.Task n ps xs)
+task_made : {n : Name} {ts us : Toks} {ps : List Name} {xs : List Stmt} → IsParams ts ps → IsBlock MAX_NESTING us xs → IsItem (Tok.key keys.Task ∷ (Tok.name n ∷ (ts ++ (us ++ [])))) (items.Task n ps xs)
 task_made {n} {us} {ps} {xs} (IsParams.brackets {ts} h) k = subst (λ (v : Toks). IsItem (Tok.key keys.Task ∷ (Tok.name n ∷ (Tok.sign signs.LeftParen ∷ (ts ++ v)))) (items.Task n ps xs)) (sym (append-nil us)) (IsItem.task h k)
 
 task_meets : (turns : ℕ) → Meets (task turns) (λ b y. IsItem (Tok.key keys.Task ∷ b) y) (λ b y. IsItem (Tok.key keys.Task ∷ b) y)
 unfolding task
 task_meets turns =
-    let any = some_block max_nesting in
+    let any = some_block MAX_NESTING in
     let none : IsParams (Tok.sign signs.LeftParen ∷ (Tok.sign signs.RightParen ∷ [])) [] = IsParams.brackets Enclosed.empty in
     name_then
     (λ n. bind (params_meets turns)
-    (λ ps. bind (block_meets turns max_nesting)
+    (λ ps. bind (block_meets turns MAX_NESTING)
     (λ xs. meets_pure (λ b k a h. task_made h k))
     (λ b xs k. ([], items.Task n ps xs, λ a h. task_made h k)))
     (λ a ps h. (any.0 ++ [], items.Task n ps [], task_made h any.1)))

@@ -2,6 +2,7 @@
 use Rattle.std.proofs.Common.{◌≡◌, ℕ, zero, suc, ◌-◌, ◌<◌, ◌^◌, List, [], ◌∷◌, ◌++◌, length, take, drop, get_or, Result, Ok, Err, refl, sym, ap, subst, ◌∙◌, arith}
 use Rattle.std.proofs.lemmas.List.{length-append, length-drop}
 use Rattle.std.proofs.lemmas.Str.{IsUtf8-from_ascii}
+use Rattle.std.proofs.Math.Seq.{take-append_seam}
 use Rattle.gr_meets.specs.Parsers.{Outcome}
 use Rattle.gr_meets.proofs.Meets.{stopped}
 use Rattle.gr_syntax.specs.declared.syntax.Place.{Place}
@@ -15,12 +16,12 @@ use Rattle.gr_parse.specs.declared.fault.ParseError.{ParseError}
 use Rattle.gr_parse.specs.declared.fault.ParseError.TheVariants as errors
 use Rattle.gr_parse.specs.declared.fault.Stop.{Stop}
 use Rattle.gr_parse.specs.declared.fault.Stop.TheVariants as stops
-use Rattle.gr_parse.specs.Tok.{Tok, toks}
-use Rattle.gr_parse.specs.Sound.{AreSound}
-use Rattle.gr_parse.specs.Operands.{Toks, plenty}
-use Rattle.gr_parse.specs.Parsing.{Fails, Gives, program}
+use Rattle.gr_parse.specs.Tok.{Tok, toks, Toks}
+use Rattle.gr_parse.specs.SoundWords.{AreSound}
+use Rattle.gr_parse.specs.OperandsWords.{plenty}
+use Rattle.gr_parse.specs.ParsingWords.{Fails, Gives, program}
 use Rattle.gr_parse.specs.Grammar.{IsProgramOf, Says}
-use Rattle.gr_parse.specs.Reports.{error_of, error_at, IsWithin, Reports, Stands}
+use Rattle.gr_parse.specs.ReportsWords.{error_of, error_at, IsWithin, Reports, Stands}
 use Rattle.gr_parse.proofs.Steps.{plenty_is}
 use Rattle.gr_parse.proofs.Agree.{exact}
 use Rattle.gr_parse.proofs.Whole.{Cut, cut, toks_length, program_found, program_read, fault_at_end, fault_at_token}
@@ -37,10 +38,6 @@ pub stands : (tokens : List Token) (left : ℕ) (d : Token) → left < length to
 stands tokens left d h =
     let i : ℕ = length tokens - 1 - left in
     record { before = take i tokens; after = drop (suc i) tokens; parts = split tokens i d (omega (arith, h)); place = omega (arith, h, length-drop (suc i) tokens) }
-
-take_front : (front : List Token) (end : Token) → take (length front) (front ++ end ∷ []) ≡ front
-take_front [] end = refl
-take_front (t ∷ front) end = ap (λ (us : List Token). t ∷ us) (take_front front end)
 
 made : (xs ys : List Item) (a b : Place) → xs ≡ ys → a ≡ b → ◌≡◌ {A = Program} (record { items = xs; end = a }) (record { items = ys; end = b })
 made xs ys a b e f = ap (λ (q : List Item). record { items = q; end = a }) e ∙ ap (λ (q : Place). record { items = ys; end = q }) f
@@ -64,7 +61,7 @@ module _ (text : List ℕ) (tokens : List Token) (are : AreTokens text tokens) w
 
   body_is : take (length tokens - 1) tokens ≡ are.front
   body_is = let one : length tokens - 1 ≡ length are.front = omega (arith, one_more) in
-      ap (λ (n : ℕ). take n tokens) one ∙ ap (take (length are.front)) are.parts ∙ take_front are.front last
+      ap (λ (n : ℕ). take n tokens) one ∙ ap (take (length are.front)) are.parts ∙ take-append_seam are.front (last ∷ [])
 
   front_sound : AreSound text are.front
   front_sound = λ k d less. let t = are.tokens_of k d less in record {

@@ -16,7 +16,7 @@ use Rattle.gr_syntax.specs.declared.syntax.Stmt.TheFolds.{fold-roll-Stmt}
 use Rattle.gr_syntax.specs.declared.syntax.Item.{Item}
 use Rattle.gr_syntax.specs.declared.syntax.Program.{Program}
 use Rattle.gr_syntax.specs.Targets.{fit, fit_step, stmt_fits, item_fits, targets_fit}
-use Rattle.gr_parse.specs.Operands.{Toks}
+use Rattle.gr_parse.specs.Tok.{Toks}
 use Rattle.gr_parse.specs.Grammar.{IsRight, IsAssignment, IsStmt, IsBlock, IsStmts, IsItem, IsProgram}
 
 fits_set : (fresh : Bool) (targets : List Name) (r : Right) → stmt_fits (st.Set1 fresh targets r) ≡ fit targets r
@@ -66,21 +66,21 @@ right_fits (IsRight.value h) n = refl
 right_fits (IsRight.result h) n = refl
 
 assignment_fits : {d : ℕ} {fresh : Bool} {ts : Toks} {x : Stmt} → IsAssignment d fresh ts x → stmt_fits x ≡ true
-assignment_fits (IsAssignment.one {fresh} {n} {r} h) = fits_set fresh (n ∷ []) r ∙ right_fits h n
-assignment_fits (IsAssignment.two {fresh} {n} {m} {c} h) = fits_set fresh (n ∷ m ∷ []) (right.Result c)
+assignment_fits (IsAssignment.one {fresh} {target = n} {right = r} h) = fits_set fresh (n ∷ []) r ∙ right_fits h n
+assignment_fits (IsAssignment.two {fresh} {first = n} {second = m} {done = c} h) = fits_set fresh (n ∷ m ∷ []) (right.Result c)
 
 mutual
   stmt_fits_so : {d : ℕ} {ts : Toks} {x : Stmt} → IsStmt d ts x → stmt_fits x ≡ true
   stmt_fits_so (IsStmt.assign h) = assignment_fits h
   stmt_fits_so (IsStmt.let_fresh h) = assignment_fits h
-  stmt_fits_so (IsStmt.call {c} h) = fits_do c
-  stmt_fits_so (IsStmt.print {x} h) = fits_print x
-  stmt_fits_so (IsStmt.if_only {x} {xs} h k) = fits_if x xs [] (block_fits k) refl
-  stmt_fits_so (IsStmt.if_else {x} {xs} {ys} h k l) = fits_if x xs ys (block_fits k) (block_fits l)
-  stmt_fits_so (IsStmt.while_loop {x} {xs} h k) = fits_while x xs (block_fits k)
-  stmt_fits_so (IsStmt.finish {xs} k) = fits_finish xs (block_fits k)
-  stmt_fits_so (IsStmt.spawn {h} {n} {xs} j k) = fits_spawn h n xs
-  stmt_fits_so (IsStmt.forall_loop {lo} {hi} {grain} {n} {xs} f g h k) = fits_forall lo hi grain n xs
+  stmt_fits_so (IsStmt.call {done = c} h) = fits_do c
+  stmt_fits_so (IsStmt.print {value = x} h) = fits_print x
+  stmt_fits_so (IsStmt.if_only {test = x} {body = xs} h k) = fits_if x xs [] (block_fits k) refl
+  stmt_fits_so (IsStmt.if_else {test = x} {body = xs} {other = ys} h k l) = fits_if x xs ys (block_fits k) (block_fits l)
+  stmt_fits_so (IsStmt.while_loop {test = x} {body = xs} h k) = fits_while x xs (block_fits k)
+  stmt_fits_so (IsStmt.finish {body = xs} k) = fits_finish xs (block_fits k)
+  stmt_fits_so (IsStmt.spawn {how = h} {task = n} {args = xs} j k) = fits_spawn h n xs
+  stmt_fits_so (IsStmt.forall_loop {lo} {hi} {grain} {task = n} {args = xs} f g h k) = fits_forall lo hi grain n xs
 
   block_fits : {d : ℕ} {ts : Toks} {xs : List Stmt} → IsBlock d ts xs → list_all stmt_fits xs ≡ true
   block_fits IsBlock.missing = refl
@@ -88,7 +88,7 @@ mutual
 
   stmts_fit : {d : ℕ} {ts : Toks} {xs : List Stmt} → IsStmts d ts xs → list_all stmt_fits xs ≡ true
   stmts_fit IsStmts.none = refl
-  stmts_fit (IsStmts.one_more {xs} h k) = ap (λ b. b && list_all stmt_fits xs) (stmt_fits_so h) ∙ stmts_fit k
+  stmts_fit (IsStmts.one_more {others = xs} h k) = ap (λ b. b && list_all stmt_fits xs) (stmt_fits_so h) ∙ stmts_fit k
 
 item_fits_so : {ts : Toks} {x : Item} → IsItem ts x → item_fits x ≡ true
 item_fits_so IsItem.array = refl
@@ -102,7 +102,7 @@ item_fits_so (IsItem.task h k) = block_fits k
 
 items_fit : {ts : Toks} {xs : List Item} → IsProgram ts xs → list_all item_fits xs ≡ true
 items_fit Repeated.none = refl
-items_fit (Repeated.one_more {xs} h k) = ap (λ b. b && list_all item_fits xs) (item_fits_so h) ∙ items_fit k
+items_fit (Repeated.one_more {others = xs} h k) = ap (λ b. b && list_all item_fits xs) (item_fits_so h) ∙ items_fit k
 
 -- Each program that is spelled has as many targets everywhere as the grammar gives.
 pub program_fits : {ts : Toks} (p : Program) → IsProgram ts p.items → targets_fit p ≡ true

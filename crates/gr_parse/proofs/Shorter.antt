@@ -1,12 +1,12 @@
 -- No part of the parser leaves more tokens than it was given.
 use Rattle.std.proofs.Common.{ℕ, ◌≤◌, length, Result, Ok, Err, IfOk}
 use Rattle.gr_meets.specs.Parsers.{Parser}
-use Rattle.gr_meets.specs.Languages.{Shortens, Takes}
+use Rattle.gr_meets.specs.LanguageWords.{Shortens, Takes}
 use Rattle.gr_meets.proofs.Agrees.{shortens, takes}
 use Rattle.gr_parse.specs.declared.fault.Stop.{Stop}
-use Rattle.gr_parse.specs.Tok.{Tok}
-use Rattle.gr_parse.specs.Operands.{Toks, name, number, expr}
-use Rattle.gr_parse.specs.Parsing.{Gives, statement, item}
+use Rattle.gr_parse.specs.Tok.{Tok, Toks}
+use Rattle.gr_parse.specs.OperandsWords.{name, number, expr}
+use Rattle.gr_parse.specs.ParsingWords.{Gives, statement, item}
 use Rattle.gr_parse.proofs.Calls.{name_meets, number_meets}
 use Rattle.gr_parse.proofs.Exprs.{expr_meets}
 use Rattle.gr_parse.proofs.Stmts.{statement_meets}

@@ -5,9 +5,10 @@ use Rattle.gr_syntax.specs.declared.syntax.Name.{Name}
 use Rattle.gr_syntax.specs.declared.syntax.Expr.{Expr}
 use Rattle.gr_syntax.specs.declared.syntax.Stmt.{Stmt}
 use Rattle.gr_text.specs.declared.token.Sign.TheVariants as signs
-use Rattle.gr_parse.specs.Tok.{Tok, operator, is_missing, is_sign, name_of}
-use Rattle.gr_parse.specs.Operands.{Toks, Counted, two, plenty, args}
-use Rattle.gr_parse.specs.Parsing.{name_or, named_statement, statement_with, statement, block, braces}
+use Rattle.gr_parse.specs.Tok.{Tok, is_sign, Toks}
+use Rattle.gr_parse.specs.TokWords.{operator, is_missing, name_of}
+use Rattle.gr_parse.specs.OperandsWords.{Counted, two, plenty, args}
+use Rattle.gr_parse.specs.ParsingWords.{name_or, named_statement, statement_with, statement, block, braces}
 
 pub levels_step : (u : ℕ → Parser Tok Counted) (l b : ℕ) (ts : Toks) → 0 < l
     → levels operator two u l b ts ≡ and_then (levels operator two u (l - 1) b ts) (λ x. chain (operator (l - 1)) two (levels operator two u (l - 1)) (suc x.1) x)

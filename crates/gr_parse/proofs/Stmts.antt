@@ -2,7 +2,7 @@
 use Rattle.std.proofs.Common.{◌≡◌, ℕ, zero, suc, Bool, true, false, List, [], ◌∷◌, ◌++◌, Option, Some, None, refl, sym, subst}
 use Rattle.std.proofs.lemmas.List.{append-nil}
 use Rattle.gr_meets.specs.Parsers.{Parser, ◌>>=◌, pure, peek}
-use Rattle.gr_meets.specs.Languages.{Read, Meets}
+use Rattle.gr_meets.specs.LanguageWords.{Read, Meets}
 use Rattle.gr_meets.specs.Lists.{Repeated}
 use Rattle.gr_meets.proofs.Meets.{weaken, meets_pure, meets_refuse, look_meets, skip_then, expect_then, either_meets, bind, peek_means}
 use Rattle.gr_meets.proofs.Runs.{run_meets}
@@ -17,9 +17,10 @@ use Rattle.gr_syntax.specs.declared.syntax.Stmt.{Stmt}
 use Rattle.gr_syntax.specs.declared.syntax.Stmt.TheVariants as st
 use Rattle.gr_text.specs.declared.token.Keyword.TheVariants as keys
 use Rattle.gr_text.specs.declared.token.Sign.TheVariants as signs
-use Rattle.gr_parse.specs.Tok.{Tok, is_sign, name_of, heap_of}
-use Rattle.gr_parse.specs.Operands.{Toks, method, no_room}
-use Rattle.gr_parse.specs.Parsing.{named_right, heap_right, right_by, right_side, one_target, two_targets, assignment, let_statement, named_statement, heap_statement, print, else_block, if_statement, while_statement, finish, started, spawned_at, spawn, forall_task, forall_statement, plain_statement, key_statement, heap_or, name_or, statement_with, braces, statement, block}
+use Rattle.gr_parse.specs.Tok.{Tok, is_sign, Toks}
+use Rattle.gr_parse.specs.TokWords.{name_of, heap_of}
+use Rattle.gr_parse.specs.OperandsWords.{method, no_room}
+use Rattle.gr_parse.specs.ParsingWords.{named_right, heap_right, right_by, right_side, one_target, two_targets, assignment, let_statement, named_statement, heap_statement, print, else_block, if_statement, while_statement, finish, started, spawned_at, spawn, forall_task, forall_statement, plain_statement, key_statement, heap_or, name_or, statement_with, braces, statement, block}
 use Rattle.gr_parse.specs.Grammar.{IsExpr, IsArgs, IsObject, IsOperation, IsCall, IsRight, IsAssignment, IsHow, IsStmt, IsBlock, IsStmts}
 use Rattle.gr_parse.proofs.TokenTests.{sign_test, key_test, missing_test, name_is, heap_is}
 use Rattle.gr_parse.proofs.Exprs.{nought, nought_is, expr_meets, expr_from_meets}
@@ -101,7 +102,7 @@ assignment_meets turns d fresh n =
 -- ---- statements without blocks
 
 some_assignment : (d : ℕ) (fresh : Bool) → IsAssignment d fresh (Tok.name nameless ∷ (Tok.sign signs.Assign ∷ (Tok.number nought ∷ (Tok.sign signs.Semicolon ∷ [])))) (st.Set1 fresh (nameless ∷ []) (right.Value (tree.Lit nought)))
-some_assignment d fresh = IsAssignment.one {ts = Tok.number nought ∷ []} (nought_right d)
+some_assignment d fresh = IsAssignment.one {inside = Tok.number nought ∷ []} (nought_right d)
 
 let_meets : (turns d : ℕ) → Meets (let_statement turns d) (λ b y. IsStmt d (Tok.key keys.Let ∷ b) y) (λ b y. IsStmt d (Tok.key keys.Let ∷ b) y)
 unfolding let_statement
@@ -201,7 +202,7 @@ plain_meets turns d = either_meets (key_test keys.Let) (let_meets turns d)
     (either_meets (key_test keys.Spawn) (spawn_meets turns d)
     (either_meets (key_test keys.Offer) (offer_meets turns d)
     (either_meets (key_test keys.Forall) (forall_meets turns d)
-    (meets_refuse (Tok.key keys.Print ∷ (Tok.number nought ∷ (Tok.sign signs.Semicolon ∷ []))) (st.Print (tree.Lit nought)) (IsStmt.print {ts = Tok.number nought ∷ []} (nought_is d)))))))
+    (meets_refuse (Tok.key keys.Print ∷ (Tok.number nought ∷ (Tok.sign signs.Semicolon ∷ []))) (st.Print (tree.Lit nought)) (IsStmt.print {inside = Tok.number nought ∷ []} (nought_is d)))))))
 
 -- ---- statements with blocks
 

@@ -2,8 +2,8 @@
 use Rattle.std.proofs.Common.{◌≡◌, ℕ, zero, suc, ◌<◌, Bool, true, false, List, [], ◌∷◌, ◌++◌, length, Ok, refl, sym, ap, subst, ◌∙◌, append_assoc, arith}
 use Rattle.std.proofs.lemmas.List.{length-append}
 use Rattle.gr_meets.specs.Parsers.{Parser, ◌>>=◌, ◌>>◌, pure, next, peek, sees, halts, expect, run}
-use Rattle.gr_meets.specs.Languages.{Completes}
-use Rattle.gr_meets.specs.Lists.{Begins}
+use Rattle.gr_meets.specs.LanguageWords.{Completes}
+use Rattle.gr_meets.specs.ListsWords.{Begins}
 use Rattle.gr_meets.proofs.Meets.{sees_heads}
 use Rattle.gr_meets.proofs.Completes.{then_reads, expect_reads, either_first, either_second, reads_then, sees_own}
 use Rattle.gr_meets.proofs.Runs.{run_completes}
@@ -21,9 +21,10 @@ use Rattle.gr_syntax.specs.declared.syntax.Stmt.TheVariants as st
 use Rattle.gr_text.specs.declared.token.Keyword.{Keyword}
 use Rattle.gr_text.specs.declared.token.Keyword.TheVariants as keys
 use Rattle.gr_text.specs.declared.token.Sign.TheVariants as signs
-use Rattle.gr_parse.specs.Tok.{Tok, is_sign, is_key, same_sign, same_key, heap_name, operator}
-use Rattle.gr_parse.specs.Operands.{Toks, semicolon, expr, expr_from, args, operation, call, no_room}
-use Rattle.gr_parse.specs.Parsing.{named_right, right_side, one_target, two_targets, assignment, let_statement, done, named_statement, heap_statement, print, else_block, if_statement, while_statement, finish, started, spawned_at, spawn, forall_task, forall_statement, plain_statement, key_statement, statement_with, braces, statement, block}
+use Rattle.gr_parse.specs.Tok.{Tok, is_sign, same_sign, heap_name, Toks}
+use Rattle.gr_parse.specs.TokWords.{is_key, same_key, operator}
+use Rattle.gr_parse.specs.OperandsWords.{semicolon, expr, expr_from, args, operation, call, no_room}
+use Rattle.gr_parse.specs.ParsingWords.{named_right, right_side, one_target, two_targets, assignment, let_statement, done, named_statement, heap_statement, print, else_block, if_statement, while_statement, finish, started, spawned_at, spawn, forall_task, forall_statement, plain_statement, key_statement, statement_with, braces, statement, block}
 use Rattle.gr_parse.specs.Grammar.{IsUnary, IsLevel, IsComparison, IsExpr, IsArgs, IsObject, IsOperation, IsCall, IsRight, IsAssignment, IsHow, IsStmt, IsBlock, IsStmts}
 use Rattle.gr_parse.proofs.TokenTests.{sign_test, key_test, missing_test}
 use Rattle.gr_parse.proofs.Complete.{Any, NoOperator, expr_completes, expr_first}
@@ -38,7 +39,7 @@ behind_few n a b rest few = omega (arith, few, ap length (append_assoc a b rest)
 -- ---- the right side of an assignment
 
 local_is : (d : ℕ) (v : Name) → IsExpr d (Tok.name v ∷ []) (tree.Local v)
-local_is d v = record { signs = 0; spelled = IsComparison.one (IsLevel.tighter (IsLevel.tighter (IsLevel.tighter (IsLevel.tighter (IsLevel.tighter (IsLevel.unary IsUnary.local)))))); few = omega arith }
+local_is d v = record { count = 0; spelled = IsComparison.one (IsLevel.tighter (IsLevel.tighter (IsLevel.tighter (IsLevel.tighter (IsLevel.tighter (IsLevel.unary IsUnary.local)))))); few = omega arith }
 
 dot_none : (rest : Toks) → NoOperator (Tok.sign signs.Dot ∷ rest)
 unfolding peek operator
@@ -72,7 +73,7 @@ value_reads n d x rest f (BeginsExpr.bracket {ts}) h = then_reads (λ x. pure (r
 
 result_reads : {d : ℕ} {t : Tok} {object : Name} {ts : Toks} {c : CallText} → IsObject t object → IsOperation d object ts c → (n : ℕ) (rest : Toks) → length (ts ++ rest) < n → right_side n d (t ∷ (Tok.sign signs.Dot ∷ (ts ++ rest))) ≡ Ok (right.Result c, rest)
 unfolding right_side named_right peek next
-result_reads {d} {ts} {c} (IsObject.named {n = m}) h n rest few =
+result_reads {d} {ts} {c} (IsObject.named {object = m}) h n rest few =
     either_first (sign_test signs.Dot) (operation n d m >>= λ c. pure (right.Result c)) (expr_from d (tree.Local m) >>= λ x. pure (right.Value x)) (ts ++ rest)
     (then_reads (λ c. pure (right.Result c)) ((operation_completes n d m).reads ts c h rest tt few) refl)
 result_reads {d} {ts} {c} (IsObject.heap {at}) h n rest few = then_reads (λ c. pure (right.Result c)) (method_reads h n rest few) refl
@@ -83,7 +84,7 @@ semicolon_no_dot rest = refl
 
 -- A right side is read in front of its semicolon.
 pub right_reads : {d : ℕ} {ts : Toks} {r : Right} → IsRight d ts r → (n : ℕ) (rest : Toks) → length (ts ++ Tok.sign signs.Semicolon ∷ rest) < n → right_side n d (ts ++ Tok.sign signs.Semicolon ∷ rest) ≡ Ok (r, Tok.sign signs.Semicolon ∷ rest)
-right_reads (IsRight.value {d} {ts} {x} h) n rest few =
+right_reads (IsRight.value {depth = d} {inside = ts} {inner = x} h) n rest few =
     value_reads n d x (Tok.sign signs.Semicolon ∷ rest) (semicolon_no_dot rest) (expr_begins h (Tok.sign signs.Semicolon ∷ rest)) ((expr_completes n d).reads ts x h (Tok.sign signs.Semicolon ∷ rest) (semicolon_none rest) few)
 right_reads (IsRight.result (IsCall.call o h)) n rest few = result_reads o h n (Tok.sign signs.Semicolon ∷ rest) (omega (arith, few))
 
@@ -114,9 +115,9 @@ two_read {d} {ts} {c} fresh m o h n rest few =
 assignment_reads : {d : ℕ} {fresh : Bool} {ts : Toks} {x : Stmt} → IsAssignment d fresh ts x → (n : ℕ) (p : Parser Tok Stmt) → ((m : Name) (us : Toks) → sees (is_sign signs.Dot) us ≡ false → p (Tok.name m ∷ us) ≡ assignment n d fresh m us)
     → (rest : Toks) → length (ts ++ rest) < n → p (ts ++ rest) ≡ Ok (x, rest)
 unfolding sees same_sign
-assignment_reads (IsAssignment.one {d} {fresh} {n = m} {ts} {r} h) n p start rest few =
+assignment_reads (IsAssignment.one {depth = d} {fresh} {target = m} {inside = ts} {right = r} h) n p start rest few =
     start m (Tok.sign signs.Assign ∷ ((ts ++ Tok.sign signs.Semicolon ∷ []) ++ rest)) refl ∙ one_reads fresh m h n rest (omega (arith, few))
-assignment_reads (IsAssignment.two {d} {fresh} {n = m} {m = o} {ts} {c} h) n p start rest few =
+assignment_reads (IsAssignment.two {depth = d} {fresh} {first = m} {second = o} {inside = ts} {done = c} h) n p start rest few =
     start m (Tok.sign signs.Comma ∷ (Tok.name o ∷ (Tok.sign signs.Assign ∷ ((ts ++ Tok.sign signs.Semicolon ∷ []) ++ rest)))) refl ∙ two_read fresh m o h n rest (omega (arith, few))
 
 -- ---- how a statement begins
@@ -171,7 +172,7 @@ module _ (n d : ℕ) (inner : Parser Tok (List Stmt)) where
 call_reads : {d : ℕ} {t : Tok} {object : Name} {ts : Toks} {c : CallText} → IsObject t object → IsOperation d object ts c → (n : ℕ) (inner : Parser Tok (List Stmt)) (rest : Toks) → length ((ts ++ Tok.sign signs.Semicolon ∷ []) ++ rest) < n
     → statement_with n d inner (t ∷ (Tok.sign signs.Dot ∷ ((ts ++ Tok.sign signs.Semicolon ∷ []) ++ rest))) ≡ Ok (st.Do c, rest)
 unfolding named_statement heap_statement
-call_reads {d} {ts} {c} (IsObject.named {n = m}) h n inner rest few =
+call_reads {d} {ts} {c} (IsObject.named {object = m}) h n inner rest few =
     with_name n d inner m (Tok.sign signs.Dot ∷ ((ts ++ Tok.sign signs.Semicolon ∷ []) ++ rest))
     ∙ either_first (sign_test signs.Dot) (operation n d m >>= done) (assignment n d false m) ((ts ++ Tok.sign signs.Semicolon ∷ []) ++ rest)
     (reads_then (operation_completes n d m) h (Tok.sign signs.Semicolon ∷ []) rest tt few done (semicolon_reads (pure (st.Do c)) rest refl))
@@ -209,15 +210,15 @@ at_reads {d} {a} {x} h n m b rest few =
 spawn_reads : {d : ℕ} {us ts : Toks} {h : HowText} {xs : List Expr} → IsHow d us h → IsArgs d ts xs → (n : ℕ) (inner : Parser Tok (List Stmt)) (m : Name) (rest : Toks) → length ((us ++ Tok.name m ∷ (ts ++ Tok.sign signs.Semicolon ∷ [])) ++ rest) < n
     → statement_with n d inner ((us ++ Tok.name m ∷ (ts ++ Tok.sign signs.Semicolon ∷ [])) ++ rest) ≡ Ok (st.Spawn h m xs, rest)
 unfolding spawn
-spawn_reads {ts} (IsHow.here {d}) k n inner m rest few =
+spawn_reads {ts} (IsHow.here {depth = d}) k n inner m rest few =
     with_spawn n d inner (Tok.name m ∷ ((ts ++ Tok.sign signs.Semicolon ∷ []) ++ rest))
     ∙ then_reads (started n d) (here_reads d m ((ts ++ Tok.sign signs.Semicolon ∷ []) ++ rest)) (started_reads k n how.Here m rest (omega (arith, few)))
-spawn_reads {ts} (IsHow.at {d} {ts = a} {x} h) k n inner m rest few =
+spawn_reads {ts} (IsHow.at {depth = d} {inside = a} {core = x} h) k n inner m rest few =
     let b : Toks = ts ++ Tok.sign signs.Semicolon ∷ [] in
     let less : length (Tok.name m ∷ (b ++ rest)) < n = behind_few n a (Tok.name m ∷ b) rest (omega (arith, few)) in
     with_spawn n d inner (Tok.key keys.At ∷ ((a ++ Tok.name m ∷ b) ++ rest))
     ∙ then_reads (started n d) (at_reads h n m b rest (omega (arith, few))) (started_reads k n (how.At x) m rest (omega (arith, less)))
-spawn_reads {ts} (IsHow.offer {d}) k n inner m rest few =
+spawn_reads {ts} (IsHow.offer {depth = d}) k n inner m rest few =
     with_offer n d inner (Tok.name m ∷ ((ts ++ Tok.sign signs.Semicolon ∷ []) ++ rest)) ∙ started_reads k n how.Offer m rest (omega (arith, few))
 
 forall_task_reads : {d : ℕ} {ts : Toks} {xs : List Expr} → IsArgs d ts xs → (n : ℕ) (lo hi grain : Expr) (m : Name) (rest : Toks) → length ((ts ++ Tok.sign signs.Semicolon ∷ []) ++ rest) < n
@@ -255,7 +256,7 @@ NoElse rest = sees (is_key keys.Else) rest ≡ false
 
 block_begins : {d : ℕ} {ts : Toks} {xs : List Stmt} → IsBlock d ts xs → (rest : Toks) → NoOperator (ts ++ rest)
 block_begins IsBlock.missing rest = missing_none rest
-block_begins (IsBlock.braces {ts} h) rest = left_brace_none ((ts ++ Tok.sign signs.RightBrace ∷ []) ++ rest)
+block_begins (IsBlock.braces {inside = ts} h) rest = left_brace_none ((ts ++ Tok.sign signs.RightBrace ∷ []) ++ rest)
 
 no_else_reads : (inner : Parser Tok (List Stmt)) (rest : Toks) → NoElse rest → else_block inner rest ≡ Ok ([], rest)
 unfolding else_block
@@ -292,16 +293,16 @@ module _ (n d : ℕ) (inner : Parser Tok (List Stmt)) (c : Completes n inner (Is
 
 -- Statements are read by whoever reads the blocks of their room.
 stmt_reads : {d : ℕ} {ts : Toks} {x : Stmt} → IsStmt d ts x → (n : ℕ) (inner : Parser Tok (List Stmt)) → Completes n inner (IsBlock d) Any → (rest : Toks) → NoElse rest → length (ts ++ rest) < n → statement_with n d inner (ts ++ rest) ≡ Ok (x, rest)
-stmt_reads (IsStmt.assign {d} h) n inner c rest f few = assignment_reads h n (statement_with n d inner) (with_target n d inner) rest few
-stmt_reads (IsStmt.let_fresh {d} {ts} h) n inner c rest f few = with_let n d inner (ts ++ rest) ∙ let_reads h n rest (omega (arith, few))
+stmt_reads (IsStmt.assign {depth = d} h) n inner c rest f few = assignment_reads h n (statement_with n d inner) (with_target n d inner) rest few
+stmt_reads (IsStmt.let_fresh {depth = d} {inside = ts} h) n inner c rest f few = with_let n d inner (ts ++ rest) ∙ let_reads h n rest (omega (arith, few))
 stmt_reads (IsStmt.call (IsCall.call o h)) n inner c rest f few = call_reads o h n inner rest (omega (arith, few))
-stmt_reads (IsStmt.print {d} {ts} h) n inner c rest f few = with_print n d inner ((ts ++ Tok.sign signs.Semicolon ∷ []) ++ rest) ∙ print_reads h n rest (omega (arith, few))
-stmt_reads (IsStmt.if_only {d} {ts} {us} h k) n inner c rest f few = with_if n d inner ((ts ++ us) ++ rest) ∙ if_only_reads n d inner c h k rest f (omega (arith, few))
-stmt_reads (IsStmt.if_else {d} {ts} {us} {vs} h k l) n inner c rest f few = with_if n d inner ((ts ++ (us ++ Tok.key keys.Else ∷ vs)) ++ rest) ∙ if_else_reads n d inner c h k l rest (omega (arith, few))
-stmt_reads (IsStmt.while_loop {d} {ts} {us} h k) n inner c rest f few = with_while n d inner ((ts ++ us) ++ rest) ∙ while_reads n d inner c h k rest (omega (arith, few))
-stmt_reads (IsStmt.finish {d} {ts} h) n inner c rest f few = with_finish n d inner (ts ++ rest) ∙ finish_reads n d inner c h rest (omega (arith, few))
-stmt_reads (IsStmt.spawn {n = m} j k) n inner c rest f few = spawn_reads j k n inner m rest few
-stmt_reads (IsStmt.forall_loop {d} {a} {b} {c = e} {ts} {n = m} f g h k) n inner c rest free few =
+stmt_reads (IsStmt.print {depth = d} {inside = ts} h) n inner c rest f few = with_print n d inner ((ts ++ Tok.sign signs.Semicolon ∷ []) ++ rest) ∙ print_reads h n rest (omega (arith, few))
+stmt_reads (IsStmt.if_only {depth = d} {front = ts} {inside = us} h k) n inner c rest f few = with_if n d inner ((ts ++ us) ++ rest) ∙ if_only_reads n d inner c h k rest f (omega (arith, few))
+stmt_reads (IsStmt.if_else {depth = d} {front = ts} {inside = us} {back = vs} h k l) n inner c rest f few = with_if n d inner ((ts ++ (us ++ Tok.key keys.Else ∷ vs)) ++ rest) ∙ if_else_reads n d inner c h k l rest (omega (arith, few))
+stmt_reads (IsStmt.while_loop {depth = d} {front = ts} {inside = us} h k) n inner c rest f few = with_while n d inner ((ts ++ us) ++ rest) ∙ while_reads n d inner c h k rest (omega (arith, few))
+stmt_reads (IsStmt.finish {depth = d} {inside = ts} h) n inner c rest f few = with_finish n d inner (ts ++ rest) ∙ finish_reads n d inner c h rest (omega (arith, few))
+stmt_reads (IsStmt.spawn {task = m} j k) n inner c rest f few = spawn_reads j k n inner m rest few
+stmt_reads (IsStmt.forall_loop {depth = d} {from = a} {to = b} {by = e} {inside = ts} {task = m} f g h k) n inner c rest free few =
     with_forall n d inner ((a ++ Tok.sign signs.DotDot ∷ (b ++ Tok.key keys.Grain ∷ (e ++ Tok.name m ∷ (ts ++ Tok.sign signs.Semicolon ∷ [])))) ++ rest) ∙ forall_reads f g h k n m rest (omega (arith, few))
 
 -- ---- blocks
@@ -321,7 +322,7 @@ object_begins IsObject.named ts = BeginsStmt.a_target
 object_begins IsObject.heap ts = BeginsStmt.the_heap
 
 call_begins : {d : ℕ} {ts : Toks} {c : CallText} → IsCall d ts c → (us rest : Toks) → BeginsStmt ((ts ++ us) ++ rest)
-call_begins (IsCall.call {ts} o h) us rest = object_begins o (Tok.sign signs.Dot ∷ ((ts ++ us) ++ rest))
+call_begins (IsCall.call {inside = ts} o h) us rest = object_begins o (Tok.sign signs.Dot ∷ ((ts ++ us) ++ rest))
 
 how_begins : {d : ℕ} {us : Toks} {h : HowText} → IsHow d us h → (ts rest : Toks) → BeginsStmt ((us ++ ts) ++ rest)
 unfolding same_key
@@ -339,7 +340,7 @@ stmt_begins (IsStmt.if_only h k) rest = BeginsStmt.a_key keys.If refl
 stmt_begins (IsStmt.if_else h k l) rest = BeginsStmt.a_key keys.If refl
 stmt_begins (IsStmt.while_loop h k) rest = BeginsStmt.a_key keys.While refl
 stmt_begins (IsStmt.finish h) rest = BeginsStmt.a_key keys.Finish refl
-stmt_begins (IsStmt.spawn {ts} {n} j k) rest = how_begins j (Tok.name n ∷ (ts ++ Tok.sign signs.Semicolon ∷ [])) rest
+stmt_begins (IsStmt.spawn {inside = ts} {task = n} j k) rest = how_begins j (Tok.name n ∷ (ts ++ Tok.sign signs.Semicolon ∷ [])) rest
 stmt_begins (IsStmt.forall_loop f g h k) rest = BeginsStmt.a_key keys.Forall refl
 
 begun_goes : {ts : Toks} → BeginsStmt ts → halts (is_sign signs.RightBrace) ts ≡ false
@@ -384,7 +385,7 @@ braces_read n d ts xs h c rest few =
 
 block_reads : {d : ℕ} {ts : Toks} {xs : List Stmt} → IsBlock d ts xs → (n : ℕ) → Under n d → (rest : Toks) → length (ts ++ rest) < n → block n d (ts ++ rest) ≡ Ok (xs, rest)
 block_reads IsBlock.missing n under rest few = missing_reads n rest
-block_reads (IsBlock.braces {d} {ts} {xs} h) n under rest few = braces_read n d ts xs h (under d refl) rest (omega (arith, few))
+block_reads (IsBlock.braces {depth = d} {inside = ts} {body = xs} h) n under rest few = braces_read n d ts xs h (under d refl) rest (omega (arith, few))
 
 none_under : (n : ℕ) → Under n 0
 none_under n e h = absurd (omega (arith, h))

@@ -2,7 +2,7 @@
 use Rattle.std.proofs.Common.{◌≡◌, ℕ, ◌<◌, Bool, true, false, cond, Option, Some, None, refl, sym, ap, subst, ◌∙◌, arith, rules, eqb}
 use Rattle.std.proofs.lemmas.Bool.{eqb-true}
 use denote.Enum.Bare.{same_true}
-use Rattle.gr_meets.specs.Languages.{Tests}
+use Rattle.gr_meets.specs.LanguageWords.{Tests}
 use Rattle.gr_syntax.specs.declared.syntax.Name.{Name}
 use Rattle.gr_syntax.specs.declared.syntax.Number.{Number}
 use Rattle.gr_syntax.specs.declared.syntax.BinOp.{BinOp}
@@ -12,7 +12,8 @@ use Rattle.gr_text.specs.declared.token.Keyword.{Keyword}
 use Rattle.gr_text.specs.contracts.token.Sign as signs
 use Rattle.gr_text.specs.declared.token.Sign.{Sign}
 use Rattle.gr_text.specs.declared.token.Sign.TheVariants as s
-use Rattle.gr_parse.specs.Tok.{Tok, same_sign, same_key, is_sign, is_key, is_missing, name_of, number_of, heap_of, object_of, heap_name, sign_of, level_of, op_of_sign, of_level, operator}
+use Rattle.gr_parse.specs.Tok.{Tok, same_sign, is_sign, heap_name, sign_of, level_of}
+use Rattle.gr_parse.specs.TokWords.{same_key, is_key, is_missing, name_of, number_of, heap_of, object_of, op_of_sign, of_level, operator}
 use Rattle.gr_parse.specs.Grammar.{IsObject}
 
 pub same_sign_self : (g : Sign) → same_sign g g ≡ true
@@ -93,7 +94,7 @@ heap_is (Tok.sign g) n e = absurd cc
 heap_is Tok.missing n e = absurd cc
 
 pub object_means : {t : Tok} {n : Name} → IsObject t n → object_of t ≡ Some n
-object_means (IsObject.named {n}) = refl
+object_means (IsObject.named {object = n}) = refl
 object_means (IsObject.heap {at}) = refl
 
 -- ---- binary signs

@@ -12,10 +12,9 @@ use Rattle.gr_text.specs.declared.token.TokenKind.{TokenKind}
 use Rattle.gr_text.specs.declared.token.TokenKind.TheVariants as kinds
 use Rattle.gr_parse.specs.declared.fault.ParseError.{ParseError}
 use Rattle.gr_parse.specs.declared.fault.ParseError.TheVariants as errors
-use Rattle.gr_parse.specs.Tok.{tok_of, toks}
-use Rattle.gr_parse.specs.Operands.{Toks}
+use Rattle.gr_parse.specs.Tok.{tok_of, toks, Toks}
 use Rattle.gr_parse.specs.Grammar.{IsProgram, IsProgramOf, Reached, Says}
-use Rattle.gr_parse.specs.Reports.{error_of, error_at}
+use Rattle.gr_parse.specs.ReportsWords.{error_of, error_at}
 use Rattle.gr_parse.proofs.Agree.{exact}
 use Rattle.gr_parse.proofs.Whole.{Cut, cut, same_cut, in_middle, toks_length, toks_append, toks_more, toks_none}
 

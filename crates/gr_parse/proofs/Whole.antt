@@ -1,6 +1,6 @@
 -- Whole texts: what the parser says of the tokens is what the text says.
 use Rattle.std.proofs.Common.{◌≡◌, ◌≢◌, ℕ, ◌<◌, List, [], ◌∷◌, ◌++◌, length, All, Ok, Err, refl, sym, ap, subst, ◌∙◌, arith}
-use Rattle.std.proofs.lemmas.List.{append-nil, length-append, length-map, map-append}
+use Rattle.std.proofs.lemmas.List.{append-nil, append_cancel_left, length-append, length-map, map-append}
 use Rattle.std.proofs.lemmas.List.Elements.{All-head, All-tail}
 use Rattle.gr_meets.specs.Faults.{Continues, IsRefused, FirstFault}
 use Rattle.gr_meets.proofs.FirstFaults as exactly
@@ -9,9 +9,8 @@ use Rattle.gr_syntax.specs.declared.syntax.Program.{Program}
 use Rattle.gr_text.specs.declared.token.Token.{Token}
 use Rattle.gr_text.specs.declared.token.TokenKind.TheVariants as kinds
 use Rattle.gr_parse.specs.declared.fault.ParseError.TheVariants as errors
-use Rattle.gr_parse.specs.Tok.{tok_of, toks}
-use Rattle.gr_parse.specs.Operands.{Toks}
-use Rattle.gr_parse.specs.Parsing.{program}
+use Rattle.gr_parse.specs.Tok.{tok_of, toks, Toks}
+use Rattle.gr_parse.specs.ParsingWords.{program}
 use Rattle.gr_parse.specs.Grammar.{IsProgram, IsProgramOf, Reached, Says}
 use Rattle.gr_parse.proofs.Agree.{exact}
 
@@ -37,10 +36,7 @@ pub record Same {A : Type 0} (a f b r : List A) : Type 0 where
   pub rests : b ≡ r
 
 pub same_cut : {A : Type 0} (a b f r : List A) → a ++ b ≡ f ++ r → length b ≡ length r → Same a f b r
-same_cut [] b [] r e h = record { fronts = refl; rests = e }
-same_cut [] b (u ∷ f) r e h = absurd (omega (arith, h, ap length e, length-append f r))
-same_cut (t ∷ a) b [] r e h = absurd (omega (arith, h, ap length e, length-append a b))
-same_cut (t ∷ a) b (u ∷ f) r e h = let head : t ≡ u = cc in let tail : a ++ b ≡ f ++ r = cc in let k = same_cut a b f r tail h in let i = k.fronts in record { fronts = cc; rests = k.rests }
+same_cut a b f r e h = let fronts : a ≡ f = exactly.same_cut a b f r e h in record { fronts = fronts; rests = append_cancel_left f b r (ap (λ q. q ++ b) (sym fronts) ∙ e) }
 
 pub in_middle : {A : Type 0} (P : A → Type 0) (a : List A) (t : A) (b : List A) → All P (a ++ t ∷ b) → P t
 in_middle P [] t b h = All-head P t b h

@@ -9,8 +9,9 @@ use Rattle.gr_text.specs.declared.token.Sign.{Sign}
 use Rattle.gr_text.specs.declared.token.Token.{Token}
 use Rattle.gr_text.specs.declared.token.TokenKind.{TokenKind}
 use Rattle.gr_text.specs.declared.token.TokenKind.TheVariants as kinds
-use Rattle.gr_parse.specs.Sound.{IsSound, AreSound}
-use Rattle.gr_parse.specs.Tok.{tok_of_word, tok_of_kind, toks, is_sign, is_missing, name_of, number_of, atom_of, operator}
+use Rattle.gr_parse.specs.SoundWords.{IsSound, AreSound}
+use Rattle.gr_parse.specs.Tok.{tok_of_word, tok_of_kind, toks, is_sign}
+use Rattle.gr_parse.specs.TokWords.{is_missing, name_of, number_of, atom_of, operator}
 
 pub word_no_sign : (want : Sign) (at : Place) (w : Keyword) → is_sign want (tok_of_word at w) ≡ false
 word_no_sign want at k.Heap = refl

@@ -1,6 +1,8 @@
 pub mod Tok
-pub mod Sound
-pub mod Operands
-pub mod Parsing
 pub mod Grammar
-pub mod Reports
+-- For proofs and private functions.
+pub mod TokWords
+pub mod SoundWords
+pub mod OperandsWords
+pub mod ParsingWords
+pub mod ReportsWords

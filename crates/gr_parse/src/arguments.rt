@@ -1,18 +1,18 @@
 //! Arguments and calls.
 
 ghost use Rattle.std.specs.Prelude.{◌≡◌};
-ghost use Rattle.gr_parse.specs.Operands as spec;
-ghost use Rattle.gr_parse.specs.Parsing.{Gives};
+ghost use Rattle.gr_parse.specs.OperandsWords as spec;
+ghost use Rattle.gr_parse.specs.ParsingWords.{Gives};
 
 use crate::fault::Stop;
 use crate::lists::{enclosed, name};
 use crate::rest::Rest;
 use gr_syntax::{CallText, Exprs, Name};
-use gr_text::token::Sign;
+use gr_text::Sign;
 use std::alloc::Global;
 
 /// Arguments, with room for so many nestings.
-#[tactic(auto, unfolding(crate::specs::Operands::args))]
+#[tactic(auto, unfolding(crate::specs::OperandsWords::args))]
 pub fn args<'a>(alloc: Global, rest: Rest<'a>, depth: usize) -> Result<(Exprs, Rest<'a>), Stop>
     ensures { Gives (λ x. x) result (spec.args spec.plenty depth rest.entry) }
 {
@@ -24,7 +24,7 @@ pub fn args<'a>(alloc: Global, rest: Rest<'a>, depth: usize) -> Result<(Exprs, R
 }
 
 /// A reducer's name, if there is one.
-#[tactic(auto, unfolding(crate::specs::Operands::reducer))]
+#[tactic(auto, unfolding(crate::specs::OperandsWords::reducer))]
 fn reducer<'a>(alloc: Global, rest: Rest<'a>) -> Result<(Option<Name>, Rest<'a>), Stop>
     ensures { Gives (λ x. x) result (spec.reducer rest.entry) }
 {
@@ -35,7 +35,7 @@ fn reducer<'a>(alloc: Global, rest: Rest<'a>) -> Result<(Option<Name>, Rest<'a>)
 }
 
 /// A call behind its dot.
-#[tactic(auto, unfolding(crate::specs::Operands::operation))]
+#[tactic(auto, unfolding(crate::specs::OperandsWords::operation))]
 pub fn operation<'a>(
     alloc: Global,
     rest: Rest<'a>,
@@ -57,7 +57,7 @@ pub fn operation<'a>(
 }
 
 /// A call behind its object.
-#[tactic(auto, unfolding(crate::specs::Operands::method))]
+#[tactic(auto, unfolding(crate::specs::OperandsWords::method))]
 pub fn method<'a>(
     alloc: Global,
     rest: Rest<'a>,
@@ -71,7 +71,7 @@ pub fn method<'a>(
 }
 
 /// A call.
-#[tactic(auto, unfolding(crate::specs::Operands::call, gr_meets::specs::Parsers::value))]
+#[tactic(auto, unfolding(crate::specs::OperandsWords::call, gr_meets::specs::Parsers::value))]
 pub fn call<'a>(alloc: Global, rest: Rest<'a>, depth: usize) -> Result<(CallText, Rest<'a>), Stop>
     ensures { Gives (λ x. x) result (spec.call spec.plenty depth rest.entry) }
 {

@@ -1,8 +1,8 @@
 //! Assignments, and what stands right of `=`.
 
 ghost use Rattle.std.specs.Prelude.{◌≡◌, [], ◌∷◌, IfOk};
-ghost use Rattle.gr_parse.specs.Parsing as spec;
-ghost use Rattle.gr_parse.specs.Parsing.{Gives};
+ghost use Rattle.gr_parse.specs.ParsingWords as spec;
+ghost use Rattle.gr_parse.specs.ParsingWords.{Gives};
 
 use crate::arguments::{call, method, operation};
 use crate::expressions::{expr, expr_from};
@@ -11,12 +11,12 @@ use crate::lists::name;
 use crate::meaning::make_heap_name;
 use crate::rest::Rest;
 use gr_syntax::{Expr, Name, Names, Right, Stmt};
-use gr_text::token::Sign;
+use gr_text::Sign;
 use sqlite_items::Items;
 use std::alloc::{AllocError, Global};
 
 /// A call or an expression that begins with this name.
-#[tactic(auto, unfolding(crate::specs::Parsing::named_right))]
+#[tactic(auto, unfolding(crate::specs::ParsingWords::named_right))]
 fn named_right<'a>(
     alloc: Global,
     rest: Rest<'a>,
@@ -34,7 +34,7 @@ fn named_right<'a>(
 }
 
 /// What stands right of `=`.
-#[tactic(auto, unfolding(crate::specs::Parsing::right_side))]
+#[tactic(auto, unfolding(crate::specs::ParsingWords::right_side))]
 fn right_side<'a>(alloc: Global, rest: Rest<'a>, depth: usize) -> Result<(Right, Rest<'a>), Stop>
     ensures { Gives (λ x. x) result (spec.right_side spec.plenty depth rest.entry) }
 {
@@ -81,7 +81,7 @@ fn two_names(alloc: Global, first: Name, second: Name) -> Result<Names, AllocErr
 }
 
 /// An assignment to one target, behind `=`.
-#[tactic(auto, unfolding(crate::specs::Parsing::one_target, crate::specs::Operands::semicolon))]
+#[tactic(auto, unfolding(crate::specs::ParsingWords::one_target, crate::specs::OperandsWords::semicolon))]
 fn one_target<'a>(
     alloc: Global,
     rest: Rest<'a>,
@@ -103,7 +103,7 @@ fn one_target<'a>(
 }
 
 /// An assignment to two targets, behind the comma.
-#[tactic(auto, unfolding(crate::specs::Parsing::two_targets, crate::specs::Operands::semicolon))]
+#[tactic(auto, unfolding(crate::specs::ParsingWords::two_targets, crate::specs::OperandsWords::semicolon))]
 fn two_targets<'a>(
     alloc: Global,
     rest: Rest<'a>,
@@ -128,7 +128,7 @@ fn two_targets<'a>(
 }
 
 /// An assignment behind its first target.
-#[tactic(auto, unfolding(crate::specs::Parsing::assignment))]
+#[tactic(auto, unfolding(crate::specs::ParsingWords::assignment))]
 pub fn assignment<'a>(
     alloc: Global,
     rest: Rest<'a>,

@@ -3,9 +3,9 @@
 ghost use Rattle.std.specs.Prelude.{◌≡◌, [], None};
 ghost use Rattle.gr_meets.specs.Parsers as read;
 ghost use Rattle.gr_text.specs.declared.token.Sign.TheVariants as signs;
-ghost use Rattle.gr_parse.specs.Tok as tok;
-ghost use Rattle.gr_parse.specs.Parsing as spec;
-ghost use Rattle.gr_parse.specs.Parsing.{Gives};
+ghost use Rattle.gr_parse.specs.TokWords as tok;
+ghost use Rattle.gr_parse.specs.ParsingWords as spec;
+ghost use Rattle.gr_parse.specs.ParsingWords.{Gives};
 
 use crate::expressions::expr;
 use crate::fault::Stop;
@@ -13,7 +13,7 @@ use crate::meaning::make_heap_name;
 use crate::rest::Rest;
 use crate::starts::{heap_statement, named_statement, plain_statement};
 use gr_syntax::{Block, Stmt};
-use gr_text::token::{Keyword, Sign};
+use gr_text::{Keyword, Sign};
 use sqlite_items::Items;
 use std::alloc::Global;
 
@@ -46,7 +46,7 @@ fn word_statement<'a>(alloc: Global, rest: Rest<'a>, depth: usize) -> Result<(St
 
 /// A statement that begins with a keyword.
 #[cycle(statement)]
-#[tactic(auto, unfolding(crate::specs::Parsing::key_statement, crate::specs::Parsing::finish))]
+#[tactic(auto, unfolding(crate::specs::ParsingWords::key_statement, crate::specs::ParsingWords::finish))]
 fn key_statement<'a>(alloc: Global, rest: Rest<'a>, depth: usize) -> Result<(Stmt, Rest<'a>), Stop>
     ensures { Gives (λ x. x) result (spec.key_statement spec.plenty depth (spec.block spec.plenty depth) rest.entry) }
 {
@@ -65,7 +65,7 @@ fn key_statement<'a>(alloc: Global, rest: Rest<'a>, depth: usize) -> Result<(Stm
 
 /// A statement behind `if`.
 #[cycle(statement)]
-#[tactic(auto, unfolding(crate::specs::Parsing::if_statement))]
+#[tactic(auto, unfolding(crate::specs::ParsingWords::if_statement))]
 fn if_statement<'a>(alloc: Global, rest: Rest<'a>, depth: usize) -> Result<(Stmt, Rest<'a>), Stop>
     ensures { Gives (λ x. x) result (spec.if_statement depth (spec.block spec.plenty depth) rest.entry) }
 {
@@ -77,7 +77,7 @@ fn if_statement<'a>(alloc: Global, rest: Rest<'a>, depth: usize) -> Result<(Stmt
 
 /// The block behind `else`, or an empty one.
 #[cycle(statement)]
-#[tactic(auto, unfolding(crate::specs::Parsing::else_block))]
+#[tactic(auto, unfolding(crate::specs::ParsingWords::else_block))]
 fn else_block<'a>(alloc: Global, rest: Rest<'a>, depth: usize) -> Result<(Block, Rest<'a>), Stop>
     ensures { Gives (λ x. x) result (spec.else_block (spec.block spec.plenty depth) rest.entry) }
 {
@@ -89,7 +89,7 @@ fn else_block<'a>(alloc: Global, rest: Rest<'a>, depth: usize) -> Result<(Block,
 
 /// A statement behind `while`.
 #[cycle(statement)]
-#[tactic(auto, unfolding(crate::specs::Parsing::while_statement))]
+#[tactic(auto, unfolding(crate::specs::ParsingWords::while_statement))]
 fn while_statement<'a>(
     alloc: Global,
     rest: Rest<'a>,

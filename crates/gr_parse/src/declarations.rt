@@ -3,23 +3,21 @@
 ghost use Rattle.std.specs.Prelude.{◌≡◌, []};
 ghost use Rattle.gr_syntax.specs.declared.syntax.Name.{Name as NameValue};
 ghost use Rattle.gr_syntax.specs.declared.syntax.Item.{Item as ItemValue};
-ghost use Rattle.gr_parse.specs.Parsing as spec;
-ghost use Rattle.gr_parse.specs.Parsing.{Gives};
+ghost use Rattle.gr_parse.specs.ParsingWords as spec;
+ghost use Rattle.gr_parse.specs.ParsingWords.{Gives};
 
 use crate::blocks::block;
 use crate::fault::Stop;
+use crate::limits::MAX_NESTING;
 use crate::lists::{enclosed, name, number, separated};
 use crate::rest::Rest;
 use gr_syntax::{Item, Name, Names};
-use gr_text::token::{Keyword, Sign};
+use gr_text::{Keyword, Sign};
 use sqlite_items::Items;
 use std::alloc::Global;
 
-/// So many nestings are allowed.
-const MAX_NESTING: usize = 64;
-
 /// An array behind its keyword.
-#[tactic(auto, unfolding(crate::specs::Parsing::array, crate::specs::Operands::semicolon))]
+#[tactic(auto, unfolding(crate::specs::ParsingWords::array, crate::specs::OperandsWords::semicolon))]
 fn array<'a>(alloc: Global, rest: Rest<'a>) -> Result<(Item, Rest<'a>), Stop>
     ensures { Gives (λ x. x) result (spec.array rest.entry) }
 {
@@ -32,7 +30,7 @@ fn array<'a>(alloc: Global, rest: Rest<'a>) -> Result<(Item, Rest<'a>), Stop>
 }
 
 /// The name of an item that has nothing else.
-#[tactic(auto, unfolding(crate::specs::Parsing::named_item, crate::specs::Operands::semicolon))]
+#[tactic(auto, unfolding(crate::specs::ParsingWords::named_item, crate::specs::OperandsWords::semicolon))]
 fn named<'a>(alloc: Global, rest: Rest<'a>) -> Result<(Name, Rest<'a>), Stop>
     ensures { (make : NameValue → ItemValue) → Gives (λ x. (make x.0, x.1)) result (spec.named_item make rest.entry) }
 {
@@ -42,7 +40,7 @@ fn named<'a>(alloc: Global, rest: Rest<'a>) -> Result<(Name, Rest<'a>), Stop>
 }
 
 /// The heap behind its keyword.
-#[tactic(auto, unfolding(crate::specs::Parsing::heap_item, crate::specs::Operands::semicolon))]
+#[tactic(auto, unfolding(crate::specs::ParsingWords::heap_item, crate::specs::OperandsWords::semicolon))]
 fn heap<'a>(rest: Rest<'a>) -> Result<(Item, Rest<'a>), Stop>
     ensures { Gives (λ x. x) result (spec.heap_item rest.entry) }
 {
@@ -52,7 +50,7 @@ fn heap<'a>(rest: Rest<'a>) -> Result<(Item, Rest<'a>), Stop>
 }
 
 /// The first words of an array, behind `input`.
-#[tactic(auto, unfolding(crate::specs::Parsing::input, crate::specs::Operands::semicolon))]
+#[tactic(auto, unfolding(crate::specs::ParsingWords::input, crate::specs::OperandsWords::semicolon))]
 fn input<'a>(alloc: Global, rest: Rest<'a>) -> Result<(Item, Rest<'a>), Stop>
     ensures { Gives (λ x. x) result (spec.input spec.plenty rest.entry) }
 {
@@ -64,7 +62,7 @@ fn input<'a>(alloc: Global, rest: Rest<'a>) -> Result<(Item, Rest<'a>), Stop>
 }
 
 /// The parameters of a task.
-#[tactic(auto, unfolding(crate::specs::Parsing::params))]
+#[tactic(auto, unfolding(crate::specs::ParsingWords::params))]
 fn params<'a>(alloc: Global, rest: Rest<'a>) -> Result<(Names, Rest<'a>), Stop>
     ensures { Gives (λ x. x) result (spec.params spec.plenty rest.entry) }
 {
@@ -73,7 +71,7 @@ fn params<'a>(alloc: Global, rest: Rest<'a>) -> Result<(Names, Rest<'a>), Stop>
 }
 
 /// A task behind its keyword.
-#[tactic(auto, unfolding(crate::specs::Parsing::task))]
+#[tactic(auto, unfolding(crate::specs::ParsingWords::task))]
 fn task<'a>(alloc: Global, rest: Rest<'a>) -> Result<(Item, Rest<'a>), Stop>
     ensures { Gives (λ x. x) result (spec.task spec.plenty rest.entry) }
 {
@@ -84,7 +82,7 @@ fn task<'a>(alloc: Global, rest: Rest<'a>) -> Result<(Item, Rest<'a>), Stop>
 }
 
 /// An item that begins with another keyword than `heap`.
-#[tactic(auto, unfolding(crate::specs::Parsing::key_item))]
+#[tactic(auto, unfolding(crate::specs::ParsingWords::key_item))]
 fn key_item<'a>(alloc: Global, rest: Rest<'a>) -> Result<(Item, Rest<'a>), Stop>
     ensures { Gives (λ x. x) result (spec.key_item spec.plenty rest.entry) }
 {
@@ -117,7 +115,7 @@ fn key_item<'a>(alloc: Global, rest: Rest<'a>) -> Result<(Item, Rest<'a>), Stop>
 }
 
 /// An item.
-#[tactic(auto, unfolding(crate::specs::Parsing::item))]
+#[tactic(auto, unfolding(crate::specs::ParsingWords::item))]
 fn item<'a>(alloc: Global, rest: Rest<'a>) -> Result<(Item, Rest<'a>), Stop>
     ensures { Gives (λ x. x) result (spec.item spec.plenty rest.entry) }
 {

@@ -2,21 +2,17 @@
 
 ghost use Rattle.std.specs.Prelude.{◌≡◌, ℕ, ◌<◌, IfOk};
 ghost use Rattle.gr_meets.specs.Parsers as read;
-ghost use Rattle.gr_parse.specs.Tok as tok;
-ghost use Rattle.gr_parse.specs.Operands as spec;
-ghost use Rattle.gr_parse.specs.Parsing.{Gives};
+ghost use Rattle.gr_parse.specs.TokWords as tok;
+ghost use Rattle.gr_parse.specs.OperandsWords as spec;
+ghost use Rattle.gr_parse.specs.ParsingWords.{Gives};
 
 use crate::fault::Stop;
+use crate::limits::{LOOSEST, MAX_SIGNS};
 use crate::rest::Rest;
 use gr_syntax::{BinOp, Expr};
-use gr_text::token::Sign;
+use gr_text::Sign;
 use sqlite_items::Boxed;
 use std::alloc::{AllocError, Global};
-
-/// An expression has at most so many binary signs.
-const MAX_SIGNS: usize = 255;
-/// The level of the comparisons, above all others.
-const LOOSEST: u8 = 5;
 
 fn two(alloc: Global, op: BinOp, left: Expr, right: Expr) -> Result<Expr, AllocError>
     ensures { IfOk result (λ x. x ≡ spec.two op left right) }
@@ -37,7 +33,7 @@ fn negation(alloc: Global, inner: Expr) -> Result<Expr, AllocError>
 }
 
 /// A number or a local.
-#[tactic(auto, unfolding(crate::specs::Operands::atom, gr_meets::specs::Parsers::value))]
+#[tactic(auto, unfolding(crate::specs::OperandsWords::atom, gr_meets::specs::Parsers::value))]
 fn atom<'a>(alloc: Global, rest: Rest<'a>, signs: usize) -> Result<(Expr, usize, Rest<'a>), Stop>
     ensures { Gives (λ x. ((x.0, x.1), x.2)) result (spec.atom signs rest.entry) }
 {
@@ -50,7 +46,7 @@ fn atom<'a>(alloc: Global, rest: Rest<'a>, signs: usize) -> Result<(Expr, usize,
 /// An operand, with room for so many nestings. `signs` is, here and below, the number of binary signs
 /// that may still come.
 #[cycle(expr)]
-#[tactic(auto, unfolding(crate::specs::Operands::unary))]
+#[tactic(auto, unfolding(crate::specs::OperandsWords::unary))]
 fn unary<'a>(
     alloc: Global,
     rest: Rest<'a>,
@@ -74,7 +70,7 @@ fn unary<'a>(
 
 /// An expression in brackets, behind the opening one.
 #[cycle(expr)]
-#[tactic(auto, unfolding(crate::specs::Operands::group))]
+#[tactic(auto, unfolding(crate::specs::OperandsWords::group))]
 fn group<'a>(
     alloc: Global,
     rest: Rest<'a>,
@@ -90,7 +86,7 @@ fn group<'a>(
 
 /// All operators.
 #[cycle(expr)]
-#[tactic(auto, unfolding(crate::specs::Operands::comparison))]
+#[tactic(auto, unfolding(crate::specs::OperandsWords::comparison))]
 fn comparison<'a>(
     alloc: Global,
     rest: Rest<'a>,
@@ -105,7 +101,7 @@ fn comparison<'a>(
 
 /// Behind a first operand, a comparison with a second one, if there is one.
 #[cycle(expr)]
-#[tactic(auto, unfolding(crate::specs::Operands::comparing))]
+#[tactic(auto, unfolding(crate::specs::OperandsWords::comparing))]
 fn comparing<'a>(
     alloc: Global,
     rest: Rest<'a>,
@@ -173,7 +169,7 @@ fn chain<'a>(
 }
 
 /// An expression, with room for so many nestings.
-#[tactic(auto, unfolding(crate::specs::Operands::expr))]
+#[tactic(auto, unfolding(crate::specs::OperandsWords::expr))]
 pub fn expr<'a>(alloc: Global, rest: Rest<'a>, depth: usize) -> Result<(Expr, Rest<'a>), Stop>
     ensures { Gives (λ x. x) result (spec.expr depth rest.entry) }
 {
@@ -201,7 +197,7 @@ fn onward<'a>(
 }
 
 /// An expression whose first operand was read.
-#[tactic(auto, unfolding(crate::specs::Operands::expr_from))]
+#[tactic(auto, unfolding(crate::specs::OperandsWords::expr_from))]
 pub fn expr_from<'a>(
     alloc: Global,
     rest: Rest<'a>,

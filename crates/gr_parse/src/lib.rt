@@ -7,16 +7,17 @@ mod assignments;
 mod blocks;
 mod declarations;
 mod expressions;
-pub mod fault;
+mod fault;
 mod laws;
+mod limits;
 mod lists;
 mod meaning;
 mod program;
 mod rest;
 mod starts;
-#[cfg(test)]
-mod tests;
 
 pub use fault::ParseError;
 pub use laws::answers_are_unique;
+pub use limits::{LOOSEST, MAX_NESTING, MAX_SIGNS};
+pub use meaning::level_of;
 pub use program::parse;

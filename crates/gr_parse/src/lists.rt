@@ -3,15 +3,15 @@
 ghost use Rattle.std.specs.Prelude.{◌≡◌, ℕ, ◌≤◌, length, IfOk};
 ghost use Rattle.gr_meets.specs.Parsers as read;
 ghost use Rattle.gr_text.specs.declared.token.Sign.TheVariants as signs;
-ghost use Rattle.gr_parse.specs.Tok as tok;
-ghost use Rattle.gr_parse.specs.Operands as spec;
-ghost use Rattle.gr_parse.specs.Parsing.{Gives};
+ghost use Rattle.gr_parse.specs.TokWords as tok;
+ghost use Rattle.gr_parse.specs.OperandsWords as spec;
+ghost use Rattle.gr_parse.specs.ParsingWords.{Gives};
 
 use crate::expressions::expr;
 use crate::fault::Stop;
 use crate::rest::Rest;
 use gr_syntax::{Expr, Name, Number};
-use gr_text::token::Sign;
+use gr_text::Sign;
 use sqlite_items::Items;
 use std::alloc::Global;
 
@@ -26,7 +26,7 @@ pub trait Element: Sized + Drop {
 }
 
 impl Element for Name {
-    ghost use Rattle.gr_parse.specs.Operands as spec;
+    ghost use Rattle.gr_parse.specs.OperandsWords as spec;
 
     ghost read_one = { λ _. spec.name };
 
@@ -36,7 +36,7 @@ impl Element for Name {
 }
 
 impl Element for Number {
-    ghost use Rattle.gr_parse.specs.Operands as spec;
+    ghost use Rattle.gr_parse.specs.OperandsWords as spec;
 
     ghost read_one = { λ _. spec.number };
 
@@ -50,7 +50,7 @@ impl Element for Number {
 }
 
 impl Element for Expr {
-    ghost use Rattle.gr_parse.specs.Operands as spec;
+    ghost use Rattle.gr_parse.specs.OperandsWords as spec;
 
     ghost read_one = { λ depth. spec.expr depth };
 
@@ -60,7 +60,7 @@ impl Element for Expr {
 }
 
 /// A name.
-#[tactic(auto, unfolding(crate::specs::Operands::name, gr_meets::specs::Parsers::value))]
+#[tactic(auto, unfolding(crate::specs::OperandsWords::name, gr_meets::specs::Parsers::value))]
 pub fn name<'a>(alloc: Global, rest: Rest<'a>) -> Result<(Name, Rest<'a>), Stop>
     ensures { Gives (λ x. x) result (spec.name rest.entry) }
 {
@@ -72,7 +72,7 @@ pub fn name<'a>(alloc: Global, rest: Rest<'a>) -> Result<(Name, Rest<'a>), Stop>
 }
 
 /// A number.
-#[tactic(auto, unfolding(crate::specs::Operands::number, gr_meets::specs::Parsers::value))]
+#[tactic(auto, unfolding(crate::specs::OperandsWords::number, gr_meets::specs::Parsers::value))]
 pub fn number<'a>(rest: Rest<'a>) -> Result<(Number, Rest<'a>), Stop>
     ensures { Gives (λ x. x) result (spec.number rest.entry) }
 {

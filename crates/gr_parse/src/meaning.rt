@@ -4,12 +4,13 @@ ghost use Rattle.std.specs.Prelude.{◌≡◌, List, ℕ, IfOk, slice_range};
 ghost use Rattle.std.specs.Str.{IsUtf8};
 ghost use Rattle.std.specs.Option.{option_map};
 ghost use Rattle.gr_syntax.specs.declared.syntax.Place.{Place as PlaceValue};
-ghost use Rattle.gr_parse.specs.Tok as tok;
+ghost use Rattle.gr_parse.specs.TokWords as tok;
 ghost use Rattle.gr_parse.specs.Tok.{tok_of, heap_name};
-ghost use Rattle.gr_parse.specs.Sound.{IsNamed, IsSound};
+ghost use Rattle.gr_parse.specs.SoundWords.{IsNamed, IsSound};
 
+use crate::limits::LOOSEST;
 use gr_syntax::{BinOp, Expr, Name, Number, Place, Text};
-use gr_text::token::{Keyword, Sign, Token, TokenKind};
+use gr_text::{Keyword, Sign, Token, TokenKind};
 use std::alloc::{AllocError, Global};
 
 #[tactic(auto, using(crate::proofs::Words::word_no_sign))]
@@ -32,7 +33,7 @@ fn same_sign(a: Sign, b: Sign) -> bool
     a == b
 }
 
-#[tactic(auto, unfolding(crate::specs::Tok::same_key))]
+#[tactic(auto, unfolding(crate::specs::TokWords::same_key))]
 fn same_word(a: Keyword, b: Keyword) -> bool
     ensures { result ≡ tok.same_key a b }
 {
@@ -191,7 +192,7 @@ pub fn make_heap_name(alloc: Global, at: Place) -> Result<Name, AllocError>
     })
 }
 
-#[tactic(auto, using(crate::proofs::Words::word_no_operator), unfolding(crate::specs::Tok::operator))]
+#[tactic(auto, using(crate::proofs::Words::word_no_operator), unfolding(crate::specs::TokWords::operator))]
 pub fn operator(token: &Token, level: u8) -> Option<BinOp>
     ensures { (text : List ℕ) → result ≡ tok.operator level (tok_of text token.now) }
 {
@@ -219,12 +220,12 @@ fn of_level(op: Option<BinOp>, level: u8) -> Option<BinOp>
     }
 }
 
-/// How loosely a binary sign binds: 0 the tightest.
-fn level_of(op: BinOp) -> u8
+/// How loosely a binary sign binds: 0 the tightest, `LOOSEST` the comparisons.
+pub fn level_of(op: BinOp) -> u8
     ensures { result ≡ tok.level_of op }
 {
     match op {
-        BinOp::Eq | BinOp::Ne | BinOp::Lt | BinOp::Le | BinOp::Gt | BinOp::Ge => 5,
+        BinOp::Eq | BinOp::Ne | BinOp::Lt | BinOp::Le | BinOp::Gt | BinOp::Ge => LOOSEST,
         BinOp::Or => 4,
         BinOp::Xor => 3,
         BinOp::And => 2,

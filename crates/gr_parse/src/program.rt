@@ -5,14 +5,14 @@ ghost use Rattle.gr_syntax.specs.declared.syntax.Program.{Program as ProgramValu
 ghost use Rattle.gr_syntax.specs.Targets.{targets_fit};
 ghost use Rattle.gr_text.specs.Text.{AreTokens};
 ghost use Rattle.gr_parse.specs.Grammar.{IsProgramOf, Says};
-ghost use Rattle.gr_parse.specs.Reports as reports;
-ghost use Rattle.gr_parse.specs.Reports.{IsWithin, Reports, Stands};
+ghost use Rattle.gr_parse.specs.ReportsWords as reports;
+ghost use Rattle.gr_parse.specs.ReportsWords.{IsWithin, Reports, Stands};
 
 use crate::declarations::items;
 use crate::fault::{ParseError, Stop};
 use crate::rest::Rest;
 use gr_syntax::Program;
-use gr_text::token::{Token, TokenKind, Tokens};
+use gr_text::{Token, TokenKind, Tokens};
 use std::alloc::Global;
 
 /// The error where the first fault is at this token.
@@ -54,15 +54,17 @@ fn report(tokens: &[Token], stop: Stop) -> ParseError
 
 /// Reads the program that the tokens of a text spell.
 ///
-/// The program is the one that the grammar gives the text. Each of its assignments has as many targets as the grammar
-/// allows. The error names the line and the column of the first token with which no program goes on, or those
-/// of the end of the text where a program would have to go on, counted from 1. There may be no memory.
+/// The program is the one that the grammar gives the text. Each of its assignments has as many targets as
+/// the grammar allows. The error names the line and the column of the first token with which no program
+/// goes on, or those of the end of the text where a program would have to go on, counted from 1. There may
+/// be no memory.
 pub fn parse(alloc: Global, text: &[u8], tokens: &Tokens) -> Result<Program, ParseError>
     requires { AreTokens text.now tokens.now }
-    ensures found { IfOk result (λ p. IsProgramOf text.now tokens.now p) }
-    ensures only { (p : ProgramValue) → IsProgramOf text.now tokens.now p → MatchResult result (λ q. q ≡ p) (λ e. e ≡ ParseError.OutOfMemory) }
-    ensures fault { IfErr result (λ e. Says e text.now tokens.now) }
-    ensures shaped { IfOk result (λ p. targets_fit p ≡ true) }
+    ensures found { IfOk result (λ program. IsProgramOf text.now tokens.now program) }
+    ensures only { (program : ProgramValue) → IsProgramOf text.now tokens.now program
+        → MatchResult result (λ found. found ≡ program) (λ e. e ≡ ParseError.OutOfMemory) }
+    ensures fault { IfErr result (λ error. Says error text.now tokens.now) }
+    ensures shaped { IfOk result (λ program. targets_fit program ≡ true) }
 {
     let all = tokens.as_slice();
     let last = all.len() - 1;

@@ -3,16 +3,16 @@
 ghost use Rattle.std.specs.Prelude.{◌≡◌, ◌<◌, ◌^◌, false, length, IfOk};
 ghost use Rattle.std.specs.Option.{option_map};
 ghost use Rattle.gr_meets.specs.Parsers as read;
-ghost use Rattle.gr_parse.specs.Tok as tok;
+ghost use Rattle.gr_parse.specs.TokWords as tok;
 ghost use Rattle.gr_parse.specs.Tok.{toks, heap_name};
-ghost use Rattle.gr_parse.specs.Sound.{AreSound};
-ghost use Rattle.gr_parse.specs.Parsing as spec;
-ghost use Rattle.gr_parse.specs.Parsing.{Gives};
+ghost use Rattle.gr_parse.specs.SoundWords.{AreSound};
+ghost use Rattle.gr_parse.specs.ParsingWords as spec;
+ghost use Rattle.gr_parse.specs.ParsingWords.{Gives};
 
 use crate::fault::Stop;
 use crate::meaning::{atom_of, heap_of, is_sign, is_word, name_of, number_of, object_of, operator};
 use gr_syntax::{BinOp, Expr, Name, Number, Place};
-use gr_text::token::{Keyword, Sign, Token};
+use gr_text::{Keyword, Sign, Token};
 use std::alloc::{AllocError, Global};
 use std::marker::Model;
 
@@ -26,7 +26,7 @@ pub struct Rest<'a> {
 impl<'a> Model for Rest<'a> {
     ghost use Rattle.std.specs.Prelude.{List};
     ghost use Rattle.gr_parse.specs.Tok.{Tok, toks};
-    ghost use Rattle.gr_parse.specs.Sound.{AreSound};
+    ghost use Rattle.gr_parse.specs.SoundWords.{AreSound};
 
     ghost Value = { List Tok };
 

@@ -1,8 +1,8 @@
 //! Statements without a block.
 
 ghost use Rattle.std.specs.Prelude.{◌≡◌};
-ghost use Rattle.gr_parse.specs.Parsing as spec;
-ghost use Rattle.gr_parse.specs.Parsing.{Gives};
+ghost use Rattle.gr_parse.specs.ParsingWords as spec;
+ghost use Rattle.gr_parse.specs.ParsingWords.{Gives};
 
 use crate::arguments::{args, method, operation};
 use crate::assignments::assignment;
@@ -11,11 +11,11 @@ use crate::fault::Stop;
 use crate::lists::name;
 use crate::rest::Rest;
 use gr_syntax::{Expr, HowText, Name, Stmt};
-use gr_text::token::{Keyword, Sign};
+use gr_text::{Keyword, Sign};
 use std::alloc::Global;
 
 /// A statement behind `let`.
-#[tactic(auto, unfolding(crate::specs::Parsing::let_statement))]
+#[tactic(auto, unfolding(crate::specs::ParsingWords::let_statement))]
 fn let_statement<'a>(alloc: Global, rest: Rest<'a>, depth: usize) -> Result<(Stmt, Rest<'a>), Stop>
     ensures { Gives (λ x. x) result (spec.let_statement spec.plenty depth rest.entry) }
 {
@@ -24,7 +24,7 @@ fn let_statement<'a>(alloc: Global, rest: Rest<'a>, depth: usize) -> Result<(Stm
 }
 
 /// A statement behind the name that it begins with.
-#[tactic(auto, unfolding(crate::specs::Parsing::named_statement, crate::specs::Operands::semicolon))]
+#[tactic(auto, unfolding(crate::specs::ParsingWords::named_statement, crate::specs::OperandsWords::semicolon))]
 pub fn named_statement<'a>(
     alloc: Global,
     rest: Rest<'a>,
@@ -42,7 +42,7 @@ pub fn named_statement<'a>(
 }
 
 /// A statement behind `heap`.
-#[tactic(auto, unfolding(crate::specs::Parsing::heap_statement, crate::specs::Operands::semicolon))]
+#[tactic(auto, unfolding(crate::specs::ParsingWords::heap_statement, crate::specs::OperandsWords::semicolon))]
 pub fn heap_statement<'a>(
     alloc: Global,
     rest: Rest<'a>,
@@ -57,7 +57,7 @@ pub fn heap_statement<'a>(
 }
 
 /// A statement behind `print`.
-#[tactic(auto, unfolding(crate::specs::Parsing::print, crate::specs::Operands::semicolon))]
+#[tactic(auto, unfolding(crate::specs::ParsingWords::print, crate::specs::OperandsWords::semicolon))]
 fn print<'a>(alloc: Global, rest: Rest<'a>, depth: usize) -> Result<(Stmt, Rest<'a>), Stop>
     ensures { Gives (λ x. x) result (spec.print depth rest.entry) }
 {
@@ -67,7 +67,7 @@ fn print<'a>(alloc: Global, rest: Rest<'a>, depth: usize) -> Result<(Stmt, Rest<
 }
 
 /// A task's name and its arguments.
-#[tactic(auto, unfolding(crate::specs::Parsing::started, crate::specs::Operands::semicolon))]
+#[tactic(auto, unfolding(crate::specs::ParsingWords::started, crate::specs::OperandsWords::semicolon))]
 fn started<'a>(
     alloc: Global,
     rest: Rest<'a>,
@@ -84,7 +84,7 @@ fn started<'a>(
 }
 
 /// Where a task is spawned.
-#[tactic(auto, unfolding(crate::specs::Parsing::spawned_at))]
+#[tactic(auto, unfolding(crate::specs::ParsingWords::spawned_at))]
 fn spawned_at<'a>(alloc: Global, rest: Rest<'a>, depth: usize) -> Result<(HowText, Rest<'a>), Stop>
     ensures { Gives (λ x. x) result (spec.spawned_at depth rest.entry) }
 {
@@ -96,7 +96,7 @@ fn spawned_at<'a>(alloc: Global, rest: Rest<'a>, depth: usize) -> Result<(HowTex
 }
 
 /// A statement behind `spawn`.
-#[tactic(auto, unfolding(crate::specs::Parsing::spawn))]
+#[tactic(auto, unfolding(crate::specs::ParsingWords::spawn))]
 fn spawn<'a>(alloc: Global, rest: Rest<'a>, depth: usize) -> Result<(Stmt, Rest<'a>), Stop>
     ensures { Gives (λ x. x) result (spec.spawn spec.plenty depth rest.entry) }
 {
@@ -105,7 +105,7 @@ fn spawn<'a>(alloc: Global, rest: Rest<'a>, depth: usize) -> Result<(Stmt, Rest<
 }
 
 /// The task of a `forall`, and its arguments.
-#[tactic(auto, unfolding(crate::specs::Parsing::forall_task, crate::specs::Operands::semicolon))]
+#[tactic(auto, unfolding(crate::specs::ParsingWords::forall_task, crate::specs::OperandsWords::semicolon))]
 fn forall_task<'a>(
     alloc: Global,
     rest: Rest<'a>,
@@ -130,7 +130,7 @@ fn forall_task<'a>(
 }
 
 /// A statement behind `forall`.
-#[tactic(auto, unfolding(crate::specs::Parsing::forall_statement))]
+#[tactic(auto, unfolding(crate::specs::ParsingWords::forall_statement))]
 fn forall_statement<'a>(
     alloc: Global,
     rest: Rest<'a>,
@@ -147,7 +147,7 @@ fn forall_statement<'a>(
 }
 
 /// A statement that begins with a keyword and has no block.
-#[tactic(auto, unfolding(crate::specs::Parsing::plain_statement))]
+#[tactic(auto, unfolding(crate::specs::ParsingWords::plain_statement))]
 pub fn plain_statement<'a>(
     alloc: Global,
     rest: Rest<'a>,

@@ -23,7 +23,7 @@ use Rattle.gr_lang.specs.Effects.{nothing}
 use Rattle.gr_lang.specs.States.{Mode, going, at_loop, ended, trapped, State, Task, Scope, Range, has_ended, is_going, is_at_loop, innermost, child, id_cmp, left}
 use Rattle.gr_lang.specs.Steps.{step, of_task, if_going, when, set_task, goes_on, is_new, call_step, spawn_step, finish_step, loop_step, begin_step, begin_at, begin_in, pass_step, pass_from, arrive_step, end_step, trap_step, over_step}
 use Rattle.gr_valid.specs.Work.{works_in}
-use Rattle.gr_plain.specs.Counts.{change_of, unended_of, begins_in, ends_in}
+use Rattle.gr_plain.specs.CountWords.{change_of, unended_of, begins_in, ends_in}
 use Rattle.gr_plain.specs.StackView.{top_of}
 use Rattle.gr_plain.specs.declared.counts.Change.{Change}
 use Rattle.gr_plain.specs.declared.counts.Change.TheVariants as c

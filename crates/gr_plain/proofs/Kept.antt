@@ -15,8 +15,9 @@ use Rattle.gr_lang.specs.States.{State, Task, main_id, opening_state, child, lef
 use Rattle.gr_lang.specs.Steps.{step}
 use Rattle.gr_valid.specs.Valid.{IsValid}
 use Rattle.gr_valid.specs.Work.{OpensValid, StepsValid, WorkIsDirect, CanBePassed, IsInnermost, has_task, has_index, works_in}
-use Rattle.gr_plain.specs.Counts.{CanChange, IsCounted, change_of, changed, is_work_in, unended_of}
-use Rattle.gr_plain.specs.Held.{Held, due_pass, is_arrive, is_blocked, stepped, with_state}
+use Rattle.gr_plain.specs.CountWords.{CanChange, IsCounted, change_of, changed, is_work_in, unended_of}
+use Rattle.gr_plain.specs.Held.{Held, stepped, with_state}
+use Rattle.gr_plain.specs.DueWords.{due_pass, is_arrive, is_blocked}
 use Rattle.gr_plain.specs.StackView.{top_of}
 use Rattle.gr_plain.specs.declared.counts.Change.{Change}
 use Rattle.gr_plain.proofs.Tallies.{any-count}

@@ -17,7 +17,7 @@ use Rattle.gr_lang.specs.States.{State, Task, Scope, Mode, going, at_loop, ended
 use Rattle.gr_lang.specs.Steps.{step, if_going, spawn_step}
 use Rattle.gr_valid.specs.Valid.{IsValid, IsValidTask, IsOpen, IsOpened, AreOpened}
 use Rattle.gr_valid.specs.Work.{StepsValid, works_in}
-use Rattle.gr_plain.specs.Counts.{begins_in, ends_in, CanChange, IsCounted, change_of, changed, unended_of}
+use Rattle.gr_plain.specs.CountWords.{begins_in, ends_in, CanChange, IsCounted, change_of, changed, unended_of}
 use Rattle.gr_plain.specs.StackView.{top_of}
 use Rattle.gr_plain.specs.declared.counts.Change.{Change}
 use Rattle.gr_plain.specs.declared.counts.Change.TheVariants as c
@@ -106,7 +106,7 @@ applied c.Opens counts S T many are eff there few = record {
 }
 applied (c.Begins r) counts S T many are eff there few =
     let at : r < length counts = omega (arith, many, there) in
-    let one : cond (r == r) 1 0 ≡ 1 = ap {B = ℕ} (λ b. cond b 1 0) (eq-eqb r r refl) in
+    let one : ◌≡◌ {A = ℕ} (cond (r == r) 1 0) 1 = ap {B = ℕ} (λ b. cond b 1 0) (eq-eqb r r refl) in
     let most : unended_of T.tasks r ≤ fin.len T.tasks = count-le-len ids_total (works_in r) T.tasks in
     record {
       can = (at, omega (arith, eff.counts r, are r, most, few, one));
@@ -118,7 +118,7 @@ applied (c.Begins r) counts S T many are eff there few =
     by_test s true e f g = let same : r ≡ s = grind (arith, nat_tests) in omega (arith, f, g, ap (slice_index counts) same)
     by_test s false e f g = omega (arith, f, g)
 applied (c.Ends r) counts S T many are eff there few =
-    let one : cond (r == r) 1 0 ≡ 1 = ap {B = ℕ} (λ b. cond b 1 0) (eq-eqb r r refl) in
+    let one : ◌≡◌ {A = ℕ} (cond (r == r) 1 0) 1 = ap {B = ℕ} (λ b. cond b 1 0) (eq-eqb r r refl) in
     let some : 0 < slice_index counts r = omega (arith, eff.counts r, are r, one) in
     let at : r < length counts = within counts r some in
     record {

@@ -1,13 +1,13 @@
 -- The words of an accepted program: its heap has at most 2^24, and its arrays lie in the words with which it opens.
-use Rattle.std.proofs.Common.{◌≡◌, ℕ, ◌+◌, ◌-◌, ◌<◌, ◌≤◌, ◌^◌, Bool, true, false, ◌&&◌, List, [], ◌∷◌, ◌++◌, refl, sym, ap, ◌∙◌, arith, length, length-append}
+use Rattle.std.proofs.Common.{◌≡◌, ℕ, ◌+◌, ◌-◌, ◌<◌, ◌≤◌, ◌^◌, Bool, true, false, ◌&&◌, List, [], ◌∷◌, ◌++◌, refl, sym, ap, ◌∙◌, arith, subst, length, length-append}
 use Rattle.std.specs.Prelude.{nat_le, nat_lt, replicate}
 use Rattle.std.specs.List.{flat_map, All}
 use Rattle.std.proofs.lemmas.List.Elements.{All-cons}
 use Rattle.gr_lang.specs.Objects.{Object, array, keys, pairs, line}
-use Rattle.gr_memory.specs.ThingView.{LiesIn, thing_of, things_of}
-use Rattle.gr_memory.specs.declared.things.Thing.{Thing}
-use Rattle.gr_memory.specs.declared.things.Thing.TheVariants as code
-use Rattle.gr_plain.specs.Sizes.{arrays_in}
+use Rattle.std.specs.FinMap as fin
+use Rattle.std.specs.FinSet as set
+use Rattle.gr_memory.specs.Ranges.{LiesIn}
+use Rattle.gr_plain.specs.SizeWords.{arrays_in}
 use Rattle.std.proofs.lemmas.Bool.Decides.{nat_tests}
 use Rattle.std.proofs.lemmas.Grind.{flat_map-append}
 use Rattle.std.proofs.lemmas.List.{length-replicate}
@@ -96,38 +96,19 @@ arrays_fit all (i.Task name params body ∷ more) = arrays_fit all more
 pub words_hold : (items : List Item) (words more all : List ℕ) → words ≡ array_words items items → all ≡ words ++ more → 0 + arrays_in items ≤ length all
 words_hold items words more all e f = omega (arith, arrays_fit items items, ap length e, ap length f, length-append words more)
 
-array_lies : (n from count : ℕ) (x : Thing) → thing_of x ≡ array from count → from + count ≤ n → LiesIn n x
-array_lies n from count (code.Array at many) e h =
-    let a : at ≡ from = cc in
-    let b : many ≡ count = cc in omega (arith, a, b, h)
-array_lies n from count (code.Set held) e h = tt
-array_lies n from count (code.Map held) e h = tt
-array_lies n from count (code.Vector held) e h = tt
-
-other_lies : (n : ℕ) (o : Object) (x : Thing) → thing_of x ≡ o → ((from count : ℕ) → o ≡ array from count → ⊥) → LiesIn n x
-other_lies n o (code.Array at many) e h = absurd (h at many (sym e))
-other_lies n o (code.Set held) e h = tt
-other_lies n o (code.Map held) e h = tt
-other_lies n o (code.Vector held) e h = tt
-
-both_lie : (n : ℕ) (o : Object) (os : List Object) (xs : List Thing) → things_of xs ≡ o ∷ os → ((x : Thing) → thing_of x ≡ o → LiesIn n x)
-    → ((ys : List Thing) → things_of ys ≡ os → All (LiesIn n) ys) → All (LiesIn n) xs
-both_lie n o os [] e one rest = λ k d lt. absurd (omega arith)
-both_lie n o os (x ∷ xs) e one rest =
-    let first : thing_of x ≡ o = cc in
-    let more : things_of xs ≡ os = cc in
-    All-cons (LiesIn n) x xs (one x first) (rest xs more)
-
 -- The arrays with which a program opens, one behind the other, lie in as many words as they take.
-pub all_lie : (n : ℕ) (items : List Item) (from : ℕ) (xs : List Thing) → things_of xs ≡ objects_from from items → from + arrays_in items ≤ n → All (LiesIn n) xs
-all_lie n [] from [] e h = λ k d lt. absurd (omega arith)
-all_lie n [] from (x ∷ xs) e h = cc
-all_lie n (i.Array name words ∷ more) from xs e h =
-    both_lie n _ _ xs e (λ x f. array_lies n from words.value x f (omega (arith, h))) (λ ys f. all_lie n more (from + words.value) ys f (omega (arith, h)))
-all_lie n (i.Set name ∷ more) from xs e h = both_lie n _ _ xs e (λ x f. other_lies n _ x f (λ a b q. cc)) (λ ys f. all_lie n more from ys f h)
-all_lie n (i.Map name ∷ more) from xs e h = both_lie n _ _ xs e (λ x f. other_lies n _ x f (λ a b q. cc)) (λ ys f. all_lie n more from ys f h)
-all_lie n (i.Vector name ∷ more) from xs e h = both_lie n _ _ xs e (λ x f. other_lies n _ x f (λ a b q. cc)) (λ ys f. all_lie n more from ys f h)
-all_lie n (i.Heap words ∷ more) from xs e h = all_lie n more from xs e h
-all_lie n (i.Show name ∷ more) from xs e h = all_lie n more from xs e h
-all_lie n (i.Input name values ∷ more) from xs e h = all_lie n more from xs e h
-all_lie n (i.Task name params body ∷ more) from xs e h = all_lie n more from xs e h
+pub all_lie : (n : ℕ) (items : List Item) (from : ℕ) → from + arrays_in items ≤ n → All (LiesIn n) (objects_from from items)
+all_lie n [] from h = λ k d lt. absurd (omega arith)
+all_lie n (i.Array name words ∷ more) from h =
+    All-cons (LiesIn n) (array from words.value) (objects_from (from + words.value) more) (omega (arith, h)) (all_lie n more (from + words.value) (omega (arith, h)))
+all_lie n (i.Set name ∷ more) from h = All-cons (LiesIn n) (keys set.empty) (objects_from from more) tt (all_lie n more from h)
+all_lie n (i.Map name ∷ more) from h = All-cons (LiesIn n) (pairs fin.empty) (objects_from from more) tt (all_lie n more from h)
+all_lie n (i.Vector name ∷ more) from h = All-cons (LiesIn n) (line []) (objects_from from more) tt (all_lie n more from h)
+all_lie n (i.Heap words ∷ more) from h = all_lie n more from h
+all_lie n (i.Show name ∷ more) from h = all_lie n more from h
+all_lie n (i.Input name values ∷ more) from h = all_lie n more from h
+all_lie n (i.Task name params body ∷ more) from h = all_lie n more from h
+
+-- So they lie in the words with which a run opens.
+pub arrays_lie : (items : List Item) (words more all : List ℕ) (things : List Object) → words ≡ array_words items items → all ≡ words ++ more → things ≡ objects_from 0 items → All (LiesIn (length all)) things
+arrays_lie items words more all things e f g = subst (λ (os : List Object). All (LiesIn (length all)) os) (sym g) (all_lie (length all) items 0 (words_hold items words more all e f))

@@ -1,4 +1,4 @@
--- Laws of histories.
+-- A law of histories.
 use Rattle.std.specs.Prelude.{◌≡◌, ℕ, List, [], ◌∷◌, ◌++◌}
 use Rattle.std.specs.Option.{option_and_then}
 use Rattle.gr_syntax.specs.declared.syntax.Program.{Program}
@@ -9,4 +9,5 @@ use Rattle.gr_lang.specs.Histories.{after}
 
 -- One more entry is one step more.
 abbrev pub AfterOneMore : Type 0
-AfterOneMore = (p : Program) (N L : ℕ) (S : State) (xs : List Entry) (x : Entry) → after p N L S (xs ++ x ∷ []) ≡ option_and_then (λ T. step p N L T x) (after p N L S xs)
+AfterOneMore = (program : Program) (cores limit : ℕ) (state : State) (entries : List Entry) (entry : Entry)
+    → after program cores limit state (entries ++ entry ∷ []) ≡ option_and_then (λ next. step program cores limit next entry) (after program cores limit state entries)

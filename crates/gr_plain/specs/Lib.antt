@@ -1,9 +1,12 @@
-pub mod Sizes
+pub mod Held
+pub mod Laws
+-- For proofs and private functions.
+pub mod SizeWords
 pub mod StackView
 pub mod ScopeView
 pub mod TaskView
-pub mod Held
-pub mod Counts
-pub mod MachineView
+pub mod DueWords
+pub mod CountWords
+pub mod HeldWords
+pub mod PlainStateView
 pub mod PlainView
-pub mod Laws

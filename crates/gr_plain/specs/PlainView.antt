@@ -1,8 +1,8 @@
--- What a plain memory with its tasks stands for, and what it keeps.
+-- What a plain memory keeps beside its state.
 use Rattle.std.specs.Prelude.{◌≡◌, false}
 use Rattle.gr_plain.specs.declared.plain.Plain.TheInside.{Inside}
-use Rattle.gr_plain.specs.Counts.{IsCounted}
+use Rattle.gr_plain.specs.CountWords.{IsCounted}
 
 -- Unless a step broke off, the state is valid, and the numbers are those of its unended tasks.
 abbrev pub IsKept : Inside → Type 0
-IsKept p = p.is_broken ≡ false → IsCounted p.machine.program p.machine.state p.unended.items
+IsKept inside = inside.is_broken ≡ false → IsCounted inside.held.program inside.held.state inside.unended.items

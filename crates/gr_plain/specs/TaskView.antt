@@ -1,16 +1,41 @@
--- What the row of a task stands for.
+-- What the row of a task stands for, and what a turn makes of a task.
+use Rattle.std.specs.Prelude.{ℕ, Bool, ◌&&◌, if◌then◌else◌, ◌∷◌, Option, Some, None}
+use Rattle.std.specs.Option.{option_map_or}
+use Rattle.std.specs.FinMap as fin
+use Rattle.gr_syntax.specs.declared.syntax.Program.{Program}
+use Rattle.gr_lang.specs.declared.action.TaskId.{TaskId}
+use Rattle.gr_lang.specs.Effects.{nothing}
+use Rattle.gr_lang.specs.States as state
+use Rattle.gr_lang.specs.Steps.{goes_on}
 use Rattle.gr_plain.specs.declared.tasks.Row.TheInside.{Inside}
 use Rattle.gr_plain.specs.declared.tasks.Mode.{Mode}
-use Rattle.gr_plain.specs.declared.tasks.Mode.TheVariants as code
-use Rattle.gr_lang.specs.States as m
+use Rattle.gr_plain.specs.declared.tasks.Mode.TheVariants as mode
+use Rattle.gr_plain.specs.declared.tasks.Turn.{Turn}
+use Rattle.gr_plain.specs.declared.tasks.Turn.TheVariants as turn
+use Rattle.gr_plain.specs.StackView.{under_top}
 
--- A mode.
-abbrev pub mode_of : Mode → m.Mode
-mode_of code.Going = m.going
-mode_of code.AtLoop = m.at_loop
-mode_of code.Ended = m.ended
-mode_of code.Trapped = m.trapped
+abbrev pub mode_of : Mode → state.Mode
+mode_of mode.Going = state.going
+mode_of mode.AtLoop = state.at_loop
+mode_of mode.Ended = state.ended
+mode_of mode.Trapped = state.trapped
 
--- A task.
-abbrev pub task_of : Inside → m.Task
-task_of r = record { scope = r.scope; action = r.action; running = r.running; opened = r.opened; mode = mode_of r.mode }
+abbrev pub task_of : Inside → state.Task
+task_of row = record { scope = row.scope; action = row.action; running = row.running; opened = row.opened; mode = mode_of row.mode }
+
+-- A task after its turn.
+abbrev pub turned : Program → ℕ → Turn → state.Task → state.Task
+turned program steps (turn.GoesOn reply) task = goes_on program steps task reply
+turned program steps (turn.Enters scope) task = record (goes_on program steps task nothing) { opened = scope ∷ task.opened }
+turned program steps (turn.Waits scope) task = record task { mode = state.at_loop; opened = scope ∷ task.opened }
+turned program steps turn.Leaves task = record (goes_on program steps task nothing) { opened = under_top task.opened }
+turned program steps turn.Ends task = record task { mode = state.ended }
+turned program steps turn.Traps task = record task { mode = state.trapped }
+
+-- The tasks after a change of the one of this id; where there is none, the same tasks.
+abbrev pub changed_at : fin.FinMap state.id_cmp state.Task → TaskId → (state.Task → state.Task) → fin.FinMap state.id_cmp state.Task
+changed_at tasks id change = option_map_or (λ task. fin.insert tasks id (change task)) (fin.get tasks id) tasks
+
+-- The scope under which new work of the task stands, where it is going and this is due.
+abbrev pub scope_if : Bool → state.Task → Option ℕ
+scope_if is_due task = if state.is_going task.mode && is_due then Some (state.innermost task) else None

@@ -2,10 +2,9 @@
 ghost use Rattle.std.specs.Prelude.{◌≡◌};
 ghost use Rattle.std.specs.Str.{bytes_eq};
 ghost use Rattle.gr_lang.specs.Steps.{has_core as is_core};
-ghost use Rattle.gr_plain.specs.Held.{call_in as call_due, is_arrive as arrive_due, is_end as end_due, is_finish as finish_due, is_loop as loop_due, is_spawn as spawn_due, trap_in as trap_due};
+ghost use Rattle.gr_plain.specs.DueWords as due;
 
-use gr_lang::{Action, How, Op, TrapKind};
-use gr_lang::Words;
+use gr_lang::{Action, How, Op, TrapKind, Words};
 
 /// Whether both have the same words.
 fn same_words(a: &Words, b: &Words) -> bool
@@ -26,7 +25,7 @@ pub fn has_core(cores: u64, how: How) -> bool
 
 /// The call at which it stands.
 pub fn call_in(action: &Action) -> Option<Op>
-    ensures { result ≡ call_due action.now }
+    ensures { result ≡ due.call_in action.now }
 {
     match action {
         Action::Call { op } => Some(*op),
@@ -36,7 +35,7 @@ pub fn call_in(action: &Action) -> Option<Op>
 
 /// Whether it is this spawn.
 pub fn is_spawn(action: &Action, how: How, target: u64, args: &Words) -> bool
-    ensures { result ≡ spawn_due action.now how target args.now }
+    ensures { result ≡ due.is_spawn action.now how target args.now }
 {
     match action {
         Action::Spawn {
@@ -54,27 +53,21 @@ pub fn is_spawn(action: &Action, how: How, target: u64, args: &Words) -> bool
 
 /// Whether it is the opening of a `finish`.
 pub fn is_finish(action: &Action) -> bool
-    ensures { result ≡ finish_due action.now }
+    ensures { result ≡ due.is_finish action.now }
 {
-    match action {
-        Action::Finish => true,
-        _ => false,
-    }
+    matches!(action, Action::Finish)
 }
 
 /// Whether it is the end of a `finish`.
 pub fn is_arrive(action: &Action) -> bool
-    ensures { result ≡ arrive_due action.now }
+    ensures { result ≡ due.is_arrive action.now }
 {
-    match action {
-        Action::Arrive => true,
-        _ => false,
-    }
+    matches!(action, Action::Arrive)
 }
 
 /// Whether it is the loop from `lo` to below `hi` with this grain and task.
 pub fn is_loop(action: &Action, lo: u64, hi: u64, grain: u64, target: u64, args: &Words) -> bool
-    ensures { result ≡ loop_due action.now lo hi grain target args.now }
+    ensures { result ≡ due.is_loop action.now lo hi grain target args.now }
 {
     match action {
         Action::Loop {
@@ -93,17 +86,14 @@ pub fn is_loop(action: &Action, lo: u64, hi: u64, grain: u64, target: u64, args:
 
 /// Whether it is the end of the body.
 pub fn is_end(action: &Action) -> bool
-    ensures { result ≡ end_due action.now }
+    ensures { result ≡ due.is_end action.now }
 {
-    match action {
-        Action::End => true,
-        _ => false,
-    }
+    matches!(action, Action::End)
 }
 
 /// Whether it is this trap, or a spawn at a core that there isn't.
 pub fn is_trap(cores: u64, action: &Action, kind: TrapKind) -> bool
-    ensures { result ≡ trap_due cores action.now kind }
+    ensures { result ≡ due.is_trap cores action.now kind }
 {
     match action {
         Action::Trap { kind: due } => due.is(&kind),

@@ -1,14 +1,17 @@
 //! The meaning of a program on one plain memory, as a machine that takes the entries of a history.
 #![tactic(auto)]
 
-pub mod counts;
-pub mod dues;
-pub mod laws;
-pub mod machine;
-pub mod opening;
-pub mod plain;
+mod counts;
+mod dues;
+mod laws;
+mod opening;
+mod plain;
+mod plain_state;
 #[cfg(test)]
 mod plain_tests;
-pub mod scopes;
-pub mod tasks;
-pub mod word_stack;
+mod scopes;
+mod tasks;
+mod word_stack;
+
+pub use laws::after_one_more;
+pub use plain::{Plain, StepError};

@@ -1,20 +1,18 @@
 //! What a run opens with: the objects of a program with their first words.
 ghost use Rattle.std.specs.Prelude.{◌≡◌, ◌<◌, ◌≤◌, ◌^◌, ◌++◌, IfOk, OnOk, map, replicate};
 ghost use Rattle.gr_lang.specs.Openings.{array_words, heap_words, input_of, objects_from, opening, padded};
-ghost use Rattle.gr_plain.specs.Sizes.{arrays_in};
-ghost use Rattle.gr_steps.specs.TableView.{IsHeap};
-ghost use Rattle.gr_memory.specs.ThingView.{things_of};
+ghost use Rattle.gr_plain.specs.SizeWords.{arrays_in};
+ghost use Rattle.gr_steps.specs.HeapRanges.{IsHeap};
 
+use gr_memory::{Memory, Thing};
+use gr_steps::HeapRange;
 use gr_syntax::{Item, Number, Program, Text};
-use gr_memory::memory::Memory;
-use gr_memory::things::Thing;
-use gr_steps::table::HeapRange;
 use std::alloc::{AllocError, Global};
 
 /// The objects with which a run opens: arrays lie one after another, and all else is empty.
 fn things_in(alloc: Global, items: &[Item]) -> Result<Vec<Thing>, AllocError>
     requires { arrays_in items.now < 2 ^ 64 }
-    ensures { IfOk result (λ things. things_of things.items ≡ objects_from 0 items.now) }
+    ensures { IfOk result (λ things. things.items ≡ objects_from 0 items.now) }
 {
     let mut things = Vec::new(alloc);
     let mut from: u64 = 0;
@@ -35,7 +33,7 @@ fn things_in(alloc: Global, items: &[Item]) -> Result<Vec<Thing>, AllocError>
 
 /// The numbers of an array's input; none where it has no input.
 fn input_in<'a>(items: &'a [Item], name: &Text) -> &'a [Number]
-    ensures { map (λ n. n.value) result.now ≡ input_of items.now name.now }
+    ensures { map (λ number. number.value) result.now ≡ input_of items.now name.now }
 {
     for item in items {
         match item {
@@ -64,7 +62,8 @@ fn push_zeros(words: &mut Vec<u64>, count: u64) -> Result<(), AllocError>
 }
 
 fn push_numbers(words: &mut Vec<u64>, numbers: &[Number]) -> Result<(), AllocError>
-    ensures { OnOk result (words.new.items ≡ words.old.items ++ map (λ n. n.value) numbers.now) }
+    ensures { OnOk result (words.new.items
+        ≡ words.old.items ++ map (λ number. number.value) numbers.now) }
 {
     for number in numbers {
         words.push(number.value)?;
@@ -74,7 +73,8 @@ fn push_numbers(words: &mut Vec<u64>, numbers: &[Number]) -> Result<(), AllocErr
 
 /// Adds so many words: these numbers first, then zeros.
 fn push_padded(words: &mut Vec<u64>, count: u64, first: &[Number]) -> Result<(), AllocError>
-    ensures { OnOk result (words.new.items ≡ words.old.items ++ padded count (map (λ n. n.value) first.now)) }
+    ensures { OnOk result (words.new.items
+        ≡ words.old.items ++ padded count (map (λ number. number.value) first.now)) }
 {
     push_numbers(words, first)?;
     push_zeros(words, count.saturating_sub(first.len() as u64))
@@ -113,7 +113,8 @@ fn heap_words_of(items: &[Item]) -> u64
 #[tactic(auto, unfolding(gr_lang::specs::Openings::opening))]
 pub fn open_memory(alloc: Global, program: &Program) -> Result<(Memory, HeapRange), AllocError>
     requires { heap_words program.now.items ≤ 2 ^ 24 }
-    ensures { IfOk result (λ opened. (opened.0 ≡ opening program.now) × IsHeap opened.1 program.now) }
+    ensures memory { IfOk result (λ opened. opened.0 ≡ opening program.now) }
+    ensures heap { IfOk result (λ opened. IsHeap opened.1 program.now) }
 {
     let items = program.items.as_slice();
     let mut words = array_words_of(alloc, items)?;

@@ -1,14 +1,14 @@
 //! The plain memory with its tasks, as a machine that takes the entries of a history one by one.
 ghost use Rattle.std.specs.Prelude.{◌≡◌, IfOk, None, OnOk, Some};
-ghost use Rattle.gr_lang.specs.States.{opening_state};
-ghost use Rattle.gr_plain.specs.Counts.{IsCounted, is_work_in as is_work_in_scope};
-ghost use Rattle.gr_plain.specs.Held.{entry_due, is_blocked as is_blocked_by, stepped};
+ghost use Rattle.gr_plain.specs.CountWords.{IsCounted, is_work_in as is_work_in_scope};
+ghost use Rattle.gr_plain.specs.DueWords.{is_blocked as is_blocked_by};
+ghost use Rattle.gr_plain.specs.Held.{entry_due, opening_held, stepped};
 
 use crate::counts::{make, number_in};
-use crate::machine::Machine;
+use crate::plain_state::PlainState;
 use gr_accept::Accepted;
 use gr_lang::{Entry, TaskId};
-use gr_valid::laws::{states_stay_valid, work_is_direct};
+use gr_valid::{states_stay_valid, work_is_direct};
 use std::alloc::{AllocError, Global};
 use std::marker::Model;
 use thiserror::Error;
@@ -36,15 +36,14 @@ impl From<AllocError> for StepError {
     }
 }
 
-/// One plain memory with the tasks and scopes of a program, which takes the entries of a history. Each
-/// entry costs at most a logarithm of the tasks, scopes and words that are there, beside the pure steps of
-/// its task.
+/// One plain memory with the tasks and scopes of a program, which takes the entries of a history.
 #[derive(Drop)]
 pub struct Plain<'a> {
-    machine: Machine<'a>,
+    held: PlainState<'a>,
     /// For each scope, the number of its tasks that haven't ended.
     unended: Vec<u64>,
-    /// Whether a step broke off for want of memory, so that the numbers may be wrong.
+    /// Whether a step broke off for want of memory, so that the numbers may be wrong. Then no more
+    /// steps are taken.
     is_broken: bool,
 }
 
@@ -63,90 +62,93 @@ impl<'a> Model for Plain<'a> {
 
     ghost use Rattle.gr_plain.specs.PlainView.{IsKept};
 
-    ghost view = { λ p. p.machine };
+    ghost view = { λ p. p.held };
 
     ghost invariant = { IsKept };
 }
 
 /// Whether a task stands in the scope that hasn't ended, or an index of its range hasn't begun.
-fn is_work_in(machine: &Machine, unended: &[u64], scope: u64) -> bool
-    ensures { result ≡ is_work_in_scope unended.now machine.now.state scope }
+fn is_work_in(held: &PlainState, unended: &[u64], scope: u64) -> bool
+    ensures { result ≡ is_work_in_scope unended.now held.now.state scope }
 {
     let has_tasks = number_in(unended, scope) > 0;
-    has_tasks || machine.is_range_left(scope)
+    has_tasks || held.is_range_left(scope)
 }
 
 /// Whether work is left under the scope that the entry passes.
-fn is_blocked(machine: &Machine, unended: &[u64], entry: &Entry) -> bool
-    requires { IsCounted machine.now.program machine.now.state unended.now }
-    ensures { result ≡ is_blocked_by machine.now.state entry.now }
+fn is_blocked(held: &PlainState, unended: &[u64], entry: &Entry) -> bool
+    requires { IsCounted held.now.program held.now.state unended.now }
+    ensures { result ≡ is_blocked_by held.now.state entry.now }
 {
     work_is_direct();
     match entry {
-        Entry::Pass { task } => match machine.passes(*task) {
+        Entry::Pass { task } => match held.passes(*task) {
             None => false,
-            Some(scope) => is_work_in(machine, unended, scope),
+            Some(scope) => is_work_in(held, unended, scope),
         },
-        Entry::Over => is_work_in(machine, unended, 0),
+        Entry::Over => is_work_in(held, unended, 0),
         _ => false,
     }
 }
 
 /// Takes an entry, and keeps the numbers. Where it isn't legal, nothing has changed.
 fn take(
-    machine: &mut Machine,
+    held: &mut PlainState,
     unended: &mut Vec<u64>,
     alloc: Global,
     entry: &Entry,
 ) -> Result<(), StepError>
-    requires { IsCounted machine.old.program machine.old.state unended.old.items }
-    ensures ok { OnOk result (stepped machine.old entry.now ≡ Some machine.new) }
-    ensures counted { OnOk result (IsCounted machine.new.program machine.new.state unended.new.items) }
-    ensures not_legal { result ≡ Err StepError.NotLegal → (stepped machine.old entry.now ≡ None) × (machine.new ≡ machine.old) × (unended.new.items ≡ unended.old.items) }
+    requires { IsCounted held.old.program held.old.state unended.old.items }
+    ensures ok { OnOk result (stepped held.old entry.now ≡ Some held.new) }
+    ensures counted { OnOk result (IsCounted held.new.program held.new.state unended.new.items) }
+    ensures not_legal { result ≡ Err StepError.NotLegal
+        → (stepped held.old entry.now ≡ None) × (held.new ≡ held.old) }
+    ensures as_before { result ≡ Err StepError.NotLegal → unended.new.items ≡ unended.old.items }
 {
-    let is_left = is_blocked(machine, unended, entry);
-    let change = machine.change(entry);
-    machine.step(alloc, entry, is_left)?;
+    let is_left = is_blocked(held, unended, entry);
+    let change = held.change(entry);
+    held.step(alloc, entry, is_left)?;
     states_stay_valid();
     // Each number is at most the number of tasks, which fits 64 bits.
-    let _ = machine.task_count();
+    let _ = held.task_count();
     make(unended, change)?;
     Ok(())
 }
 
 impl<'a> Plain<'a> {
-    /// The state before the first entry: the opening objects, and `main` at its first action. `steps` is
-    /// the limit of pure steps between two actions.
+    /// The state before the first entry: the opening objects, and `main` at its first action.
+    /// `steps` is the limit of pure steps between two actions.
     pub fn start(
         alloc: Global,
         program: &'a Accepted,
         cores: u64,
         steps: u64,
     ) -> Result<Plain<'a>, AllocError>
-        ensures { IfOk result (λ plain. plain ≡ record { program = program.now; cores = cores; steps = steps; state = opening_state program.now steps }) }
+        ensures { IfOk result (λ plain. plain ≡ opening_held program.now cores steps) }
     {
-        let machine = Machine::start(alloc, program, cores, steps)?;
+        let held = PlainState::start(alloc, program, cores, steps)?;
         let mut unended = Vec::new(alloc);
         unended.push(1)?;
         states_stay_valid();
         Ok(Plain {
-            machine,
+            held,
             unended,
             is_broken: false,
         })
     }
 
-    /// Takes the next entry of a history. `NotLegal` where the entry is no step, and then nothing has
-    /// changed. After `OutOfMemory` the state is of no more use, and each further step answers it too.
+    /// Takes the next entry of a history. `NotLegal` where the entry is no step, and then nothing
+    /// has changed. After `OutOfMemory` the state is of no more use.
     pub fn step(&mut self, alloc: Global, entry: &Entry) -> Result<(), StepError>
         ensures ok { OnOk result (stepped self.old entry.now ≡ Some self.new) }
-        ensures not_legal { result ≡ Err StepError.NotLegal → (stepped self.old entry.now ≡ None) × (self.new ≡ self.old) }
+        ensures not_legal { result ≡ Err StepError.NotLegal
+            → (stepped self.old entry.now ≡ None) × (self.new ≡ self.old) }
     {
         if self.is_broken {
             return Err(StepError::OutOfMemory);
         }
         self.is_broken = true;
-        let taken = take(&mut self.machine, &mut self.unended, alloc, entry);
+        let taken = take(&mut self.held, &mut self.unended, alloc, entry);
         match taken {
             Ok(()) => {
                 self.is_broken = false;
@@ -160,18 +162,18 @@ impl<'a> Plain<'a> {
         }
     }
 
-    /// The legal entry of a going task whose next action is a call, an end or a trap; None for any other
-    /// task.
+    /// The legal entry of a going task whose next action is a call, an end or a trap; None for any
+    /// other task.
     pub fn next_call(&self, task: TaskId) -> Result<Option<Entry>, AllocError>
         ensures { IfOk result (λ entry. entry ≡ entry_due self.now.state task) }
     {
-        self.machine.next_call(task)
+        self.held.next_call(task)
     }
 
     /// Whether the root scope is passed, as it is exactly after a complete history.
     pub fn complete(&self) -> bool
         ensures { result ≡ self.now.state.passed }
     {
-        self.machine.complete()
+        self.held.complete()
     }
 }

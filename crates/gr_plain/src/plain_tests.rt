@@ -3,9 +3,8 @@ ghost use Rattle.std.specs.Prelude.{◌≡◌, IfOk};
 ghost use Rattle.gr_accept.specs.AcceptedRows.{prints};
 
 use crate::plain::{Plain, StepError};
-use gr_accept::Accepted;
+use gr_accept::{Accepted, accepted_rows};
 use gr_lang::{Entry, Op, Reply, TaskId};
-use gr_accept::accepted_rows;
 use gr_syntax::{Expr, Item, Name, Number, Place, Program, Stmt, Text};
 use sqlite_items::Items;
 use std::alloc::{AllocError, Global};

@@ -3,14 +3,13 @@ ghost use Rattle.std.specs.Prelude.{◌≡◌, ◌++◌, IfOk, OnOk};
 ghost use Rattle.gr_lang.specs.States.{range_left};
 ghost use Rattle.gr_plain.specs.ScopeView.{args_of, begin_scope, begins_in, begun_at};
 
-use gr_lang::TaskId;
-use gr_lang::Words;
-use gr_memory::parts::Keys;
+use gr_lang::{TaskId, Words};
+use gr_memory::Keys;
 use std::alloc::{AllocError, Global};
 use std::marker::Model;
 
-/// A loop's range from `lo` to below `hi`, its task with the arguments behind the index, and the indices
-/// that have begun.
+/// A loop's range from `lo` to below `hi`, its task with the arguments behind the index, and the
+/// indices that have begun.
 #[derive(Drop)]
 pub struct RangeRow {
     pub lo: u64,

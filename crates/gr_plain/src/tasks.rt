@@ -1,18 +1,16 @@
 //! The tasks of a run by their ids.
-ghost use Rattle.std.specs.Prelude.{◌≡◌, ◌∷◌, IfOk, IfSome, OnOk, length};
+ghost use Rattle.std.specs.Prelude.{◌≡◌, ◌∷◌, IfOk, OnOk, length};
 ghost use Rattle.std.specs.BTreeMap.{IsOrdered};
 ghost use Rattle.std.specs.FinMap as fin;
 ghost use Rattle.std.specs.Option.{option_copied};
-ghost use Rattle.gr_lang.specs.States.{at_loop, child, id_cmp, innermost, is_at_loop as at_loop_mode, is_going as going_mode};
+ghost use Rattle.gr_lang.specs.States.{child, id_cmp, innermost, is_at_loop as at_loop_mode, is_going as going_mode};
 ghost use Rattle.gr_lang.specs.Steps.{goes_on as gone_on};
-ghost use Rattle.gr_lang.specs.Effects.{nothing};
 ghost use Rattle.gr_plain.specs.StackView.{top_of, under_top};
-ghost use Rattle.gr_plain.specs.TaskView.{mode_of};
+ghost use Rattle.gr_plain.specs.TaskView.{changed_at, mode_of, scope_if, turned};
 
 use crate::word_stack::WordStack;
 use gr_lang::{Action, Reply, TaskId};
-use gr_steps::running::Running;
-use gr_steps::table::Table;
+use gr_steps::{Running, Table};
 use std::alloc::{AllocError, Global};
 use std::collections::BTreeMap;
 use std::marker::Model;
@@ -24,6 +22,23 @@ pub enum Mode {
     AtLoop,
     Ended,
     Trapped,
+}
+
+/// What an entry makes of a task.
+#[derive(Clone, Copy)]
+pub enum Turn {
+    /// It goes on after its action, with the reply's words.
+    GoesOn { reply: Reply },
+    /// It goes on in this scope, which it opens.
+    Enters { scope: u64 },
+    /// It waits at its loop, for which it opens this scope.
+    Waits { scope: u64 },
+    /// It leaves its innermost scope, and goes on.
+    Leaves,
+    /// It ends.
+    Ends,
+    /// It is trapped.
+    Traps,
 }
 
 /// A task: the scope in which it stands, its next action and what it still has to do there, and the
@@ -85,9 +100,17 @@ impl<'a> Row<'a> {
     pub fn innermost(&self) -> u64
         ensures { result ≡ innermost self.now }
     {
-        match self.opened.top() {
-            Some(scope) => scope,
-            None => self.scope,
+        self.opened.top().unwrap_or(self.scope)
+    }
+
+    /// The scope under which its new work stands, where it goes on and this is due.
+    pub fn scope_if(&self, is_due: bool) -> Option<u64>
+        ensures { result ≡ scope_if is_due self.now }
+    {
+        if self.is_going() && is_due {
+            Some(self.innermost())
+        } else {
+            None
         }
     }
 
@@ -109,20 +132,14 @@ impl<'a> Row<'a> {
     pub fn is_going(&self) -> bool
         ensures { result ≡ going_mode self.now.mode }
     {
-        match self.mode {
-            Mode::Going => true,
-            _ => false,
-        }
+        matches!(self.mode, Mode::Going)
     }
 
     /// Whether it waits at its loop.
     pub fn is_at_loop(&self) -> bool
         ensures { result ≡ at_loop_mode self.now.mode }
     {
-        match self.mode {
-            Mode::AtLoop => true,
-            _ => false,
-        }
+        matches!(self.mode, Mode::AtLoop)
     }
 
     fn set_mode(&mut self, mode: Mode)
@@ -157,6 +174,41 @@ impl<'a> Row<'a> {
         self.action = self.running.next(alloc, table, steps)?;
         self.mode = Mode::Going;
         Ok(())
+    }
+
+    /// Takes this turn.
+    fn turn(
+        &mut self,
+        alloc: Global,
+        table: &Table,
+        steps: u64,
+        turn: Turn,
+    ) -> Result<(), AllocError>
+        ensures { OnOk result (self.new ≡ turned table.now steps turn self.old) }
+    {
+        match turn {
+            Turn::GoesOn { reply } => self.go_on(alloc, table, steps, reply),
+            Turn::Enters { scope } => {
+                self.go_on(alloc, table, steps, Reply::nothing())?;
+                self.enter(scope)
+            }
+            Turn::Waits { scope } => {
+                self.set_mode(Mode::AtLoop);
+                self.enter(scope)
+            }
+            Turn::Leaves => {
+                self.leave();
+                self.go_on(alloc, table, steps, Reply::nothing())
+            }
+            Turn::Ends => {
+                self.set_mode(Mode::Ended);
+                Ok(())
+            }
+            Turn::Traps => {
+                self.set_mode(Mode::Trapped);
+                Ok(())
+            }
+        }
     }
 }
 
@@ -218,94 +270,22 @@ impl<'a> Tasks<'a> {
         Ok(())
     }
 
-    /// A task that is there goes on to its next action.
-    #[tactic(auto, using(gr_lang::proofs::TaskIds::put_back))]
-    pub fn goes_on(
+    /// The task of this id takes a turn; where there is none, nothing changes.
+    #[tactic(auto, using(gr_lang::proofs::TaskIds::put_back, crate::proofs::Absent::remove_absent))]
+    pub fn turn(
         &mut self,
         alloc: Global,
         table: &Table,
         steps: u64,
         id: TaskId,
-        reply: Reply,
+        turn: Turn,
     ) -> Result<(), AllocError>
-        ensures { OnOk result (IfSome (fin.get self.old id) (λ t. self.new ≡ fin.insert self.old id (gone_on table.now steps t reply))) }
+        ensures { OnOk result (self.new ≡ changed_at self.old id (turned table.now steps turn)) }
     {
         match self.take(id) {
             None => Ok(()),
             Some(mut row) => {
-                row.go_on(alloc, table, steps, reply)?;
-                self.put(id, row)
-            }
-        }
-    }
-
-    /// A task that is there enters a scope, and goes on.
-    #[tactic(auto, using(gr_lang::proofs::TaskIds::put_back))]
-    pub fn enters(
-        &mut self,
-        alloc: Global,
-        table: &Table,
-        steps: u64,
-        id: TaskId,
-        scope: u64,
-    ) -> Result<(), AllocError>
-        ensures { OnOk result (IfSome (fin.get self.old id) (λ t. self.new ≡ fin.insert self.old id (record (gone_on table.now steps t nothing) { opened = scope ∷ t.opened }))) }
-    {
-        match self.take(id) {
-            None => Ok(()),
-            Some(mut row) => {
-                row.go_on(alloc, table, steps, no_reply())?;
-                row.enter(scope)?;
-                self.put(id, row)
-            }
-        }
-    }
-
-    /// A task that is there enters the scope of its loop, and waits there.
-    #[tactic(auto, using(gr_lang::proofs::TaskIds::put_back))]
-    pub fn waits(&mut self, id: TaskId, scope: u64) -> Result<(), AllocError>
-        ensures { OnOk result (IfSome (fin.get self.old id) (λ t. self.new ≡ fin.insert self.old id (record t { mode = at_loop; opened = scope ∷ t.opened }))) }
-    {
-        match self.take(id) {
-            None => Ok(()),
-            Some(mut row) => {
-                row.enter(scope)?;
-                row.set_mode(Mode::AtLoop);
-                self.put(id, row)
-            }
-        }
-    }
-
-    /// A task that is there leaves its innermost scope, and goes on.
-    #[tactic(auto, using(gr_lang::proofs::TaskIds::put_back))]
-    pub fn leaves(
-        &mut self,
-        alloc: Global,
-        table: &Table,
-        steps: u64,
-        id: TaskId,
-    ) -> Result<(), AllocError>
-        ensures { OnOk result (IfSome (fin.get self.old id) (λ t. self.new ≡ fin.insert self.old id (record (gone_on table.now steps t nothing) { opened = under_top t.opened }))) }
-    {
-        match self.take(id) {
-            None => Ok(()),
-            Some(mut row) => {
-                row.go_on(alloc, table, steps, no_reply())?;
-                row.leave();
-                self.put(id, row)
-            }
-        }
-    }
-
-    /// A task that is there changes its mode.
-    #[tactic(auto, using(gr_lang::proofs::TaskIds::put_back))]
-    pub fn set_mode(&mut self, id: TaskId, mode: Mode) -> Result<(), AllocError>
-        ensures { OnOk result (IfSome (fin.get self.old id) (λ t. self.new ≡ fin.insert self.old id (record t { mode = mode_of mode }))) }
-    {
-        match self.take(id) {
-            None => Ok(()),
-            Some(mut row) => {
-                row.set_mode(mode);
+                row.turn(alloc, table, steps, turn)?;
                 self.put(id, row)
             }
         }
@@ -316,15 +296,5 @@ impl<'a> Tasks<'a> {
         ensures { result ≡ fin.len self.now }
     {
         row_count(&self.rows)
-    }
-}
-
-/// The reply that gives no words.
-pub fn no_reply() -> Reply
-    ensures { result ≡ nothing }
-{
-    Reply {
-        first: 0,
-        second: 0,
     }
 }

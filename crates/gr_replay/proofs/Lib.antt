@@ -1,4 +1,3 @@
-pub mod Numberings
 pub mod Verdicts
 pub mod Progress
 pub mod Positions

@@ -1,246 +1,214 @@
 -- What is written of a legal history names it again.
-use Rattle.std.proofs.Common.{◌≡◌, ℕ, zero, suc, ◌==◌, Bool, true, false, ◌&&◌, ◌||◌, List, [], ◌∷◌, map, take, slice_get, Option, Some, None, unwrap_or, if◌then◌else◌, refl, sym, ap, ap₂, subst, codes, true≢false, eqb-true, ◌∙◌}
+use Rattle.std.proofs.Common.{◌≡◌, ℕ, ◌==◌, Bool, true, false, ◌&&◌, List, [], ◌∷◌, map, slice_get, take, Option, Some, None, unwrap_or, refl, sym, ap, ap₂, subst, codes, true≢false, eqb-true, ◌∙◌}
+use Rattle.std.specs.Prelude.{if◌then◌else◌}
 use Rattle.std.specs.Option.{option_and_then, option_map}
 use Rattle.std.specs.Str.{bytes_eq}
 use Rattle.std.specs.FinMap as fin
+use Rattle.std.proofs.lemmas.Bool.{and_parts, false_from_ne_true}
 use Rattle.std.proofs.lemmas.List.Elements.{All-head, All-tail}
+use Rattle.std.proofs.lemmas.Option.{cond_some, option_and_then_some}
+use Rattle.std.proofs.lemmas.Slice.Eq.{bytes_eq-Decides}
+use Rattle.gr_syntax.specs.declared.limits.TheConstants.{HEAP}
 use Rattle.gr_syntax.specs.declared.syntax.Program.{Program}
+use Rattle.gr_syntax.specs.Names.{has, is_name}
+use Rattle.gr_syntax.specs.Items.{TaskText, object_named, object_names, task_named, tasks_of}
+use Rattle.gr_names.specs.Numbered.{name_at, object_name, task_name, task_names}
+use Rattle.gr_names.proofs.Positions.{position-map}
+use Rattle.gr_accept.specs.Operations.{argument_count}
 use Rattle.gr_lang.specs.declared.action.Action.{Action}
-use Rattle.gr_lang.specs.declared.action.Action.TheVariants as a
+use Rattle.gr_lang.specs.declared.action.Action.TheVariants as action
 use Rattle.gr_lang.specs.declared.action.Entry.{Entry}
 use Rattle.gr_lang.specs.declared.action.Entry.TheVariants as plain
 use Rattle.gr_lang.specs.declared.action.Op.{Op}
-use Rattle.gr_lang.specs.declared.action.Op.TheVariants as ops
+use Rattle.gr_lang.specs.declared.action.Op.TheVariants as op
+use Rattle.gr_lang.specs.declared.action.Parts.{Parts}
+use Rattle.gr_lang.specs.declared.action.Parts.TheVariants as parts
 use Rattle.gr_lang.specs.declared.action.Reply.{Reply}
 use Rattle.gr_lang.specs.declared.action.TaskId.{TaskId}
-use Rattle.gr_accept.specs.declared.operation.Operation.{Operation}
-use Rattle.gr_accept.specs.declared.operation.Operation.TheVariants as o
+use Rattle.gr_lang.specs.Effects.{nothing, word_reply}
 use Rattle.gr_lang.specs.Fields.{same_reply}
-use Rattle.gr_lang.specs.Parts.{same_op}
 use Rattle.gr_lang.specs.Histories.{after}
-use Rattle.gr_syntax.specs.Names.{has}
-use Rattle.gr_lang.specs.Objects.{Object, Objects, array, keys, pairs, line, call, on_word_at, insert_in, remove_in, has_in, put_in, erase_in, push_in, alloc_at, start_for}
-use Rattle.gr_syntax.specs.declared.limits.TheConstants.{HEAP}
-use Rattle.gr_syntax.specs.Items.{TaskText, object_names, tasks_of}
+use Rattle.gr_lang.specs.Objects.{Object, Objects, alloc_at, array, at_address, at_object, address, call, keys, line, on_key, on_line, pairs, start_for}
+use Rattle.gr_lang.specs.Parts.{parts_of, same_op}
 use Rattle.gr_lang.specs.States.{State, Task, is_going}
-use Rattle.gr_lang.specs.Steps.{step, call_step, called, if_going, when}
+use Rattle.gr_lang.specs.Steps.{step, call_step, called, if_going}
 use Rattle.gr_hist.specs.Grammar.{HasNames}
-use Rattle.gr_syntax.specs.Names.{is_name}
 use Rattle.gr_hist.specs.Names.{is_object_name}
-use Rattle.gr_hist.specs.Naming.{IsNamable, call_on, name_at, named, named_call, names_of, object_name, reply_words}
-use Rattle.gr_syntax.specs.Items.{object_named, task_named}
+use Rattle.gr_hist.specs.Naming.{IsNamable, named, named_parts, reply_words}
+use Rattle.gr_hist.proofs.Spelled.{any_false}
 use Rattle.gr_replay.specs.Entries.{call_at, entry_in, reply_of}
 use Rattle.gr_replay.specs.Judged.{Names}
-use Rattle.gr_replay.proofs.Numberings.{bytes_eq_comm, task_place}
 use Rattle.gr_replay.proofs.Uniques.{IsOnce}
 
+-- Replies.
+
 -- The words that are written of a reply say the whole reply.
-abbrev IsSaid : ℕ → Reply → Type 0
-IsSaid n r = reply_of (take n (r.first ∷ r.second ∷ [])) ≡ r
+abbrev IsSaid : Parts → Reply → Type 0
+IsSaid (parts.Call operation object reducer words) reply = reply_of (reply_words operation reply) ≡ reply
+IsSaid (parts.Print word) reply = nothing ≡ reply
 
-word_said : (at : Option ℕ) (os : Objects) (f : ℕ → ℕ) → IsSaid 1 (on_word_at at os f).1
-word_said None os f = refl
-word_said (Some at) os f = refl
+-- Of a call on a word, on a key and on a vector, where each reply that the call can have is said.
+word_said : (call : Op) (at : Option ℕ) (objects : Objects) → IsSaid (parts_of call) nothing → ((word : ℕ) → IsSaid (parts_of call) (word_reply call word)) → IsSaid (parts_of call) (at_address at call objects).1
+word_said call None objects none some = none
+word_said call (Some at) objects none some = some _
 
-insert_said : (x : Option Object) (os : Objects) (object key : ℕ) → IsSaid 1 (insert_in x os object key).1
-insert_said None os object key = refl
-insert_said (Some (array from count)) os object key = refl
-insert_said (Some (keys s)) os object key = refl
-insert_said (Some (pairs m)) os object key = refl
-insert_said (Some (line ws)) os object key = refl
+thing_said : (call : Op) (thing : Option Object) (object : ℕ) (f : Object → Object × Reply) (objects : Objects) → IsSaid (parts_of call) nothing → ((x : Object) → IsSaid (parts_of call) (f x).1)
+    → IsSaid (parts_of call) (at_object thing object f objects).1
+thing_said call None object f objects none some = none
+thing_said call (Some thing) object f objects none some = some thing
 
-remove_said : (x : Option Object) (os : Objects) (object key : ℕ) → IsSaid 1 (remove_in x os object key).1
-remove_said None os object key = refl
-remove_said (Some (array from count)) os object key = refl
-remove_said (Some (keys s)) os object key = refl
-remove_said (Some (pairs m)) os object key = refl
-remove_said (Some (line ws)) os object key = refl
+line_said : (call : Op) → IsSaid (parts_of call) nothing → ((words : List ℕ) → IsSaid (parts_of call) (on_line call (line words)).1) → (thing : Object) → IsSaid (parts_of call) (on_line call thing).1
+line_said call none some (array from count) = none
+line_said call none some (keys held) = none
+line_said call none some (pairs held) = none
+line_said call none some (line words) = some words
 
-has_said : (x : Option Object) (os : Objects) (key : ℕ) → IsSaid 1 (has_in x os key).1
-has_said None os key = refl
-has_said (Some (array from count)) os key = refl
-has_said (Some (keys s)) os key = refl
-has_said (Some (pairs m)) os key = refl
-has_said (Some (line ws)) os key = refl
+alloc_said : (start : Option ℕ) (count : ℕ) (objects : Objects) → IsSaid (parts_of (op.Alloc count)) (alloc_at start count objects).1
+alloc_said None count objects = refl
+alloc_said (Some start) count objects = refl
 
-put_said : (x : Option Object) (os : Objects) (object key : ℕ) (f : Option ℕ → ℕ) → IsSaid 1 (put_in x os object key f).1
-put_said None os object key f = refl
-put_said (Some (array from count)) os object key f = refl
-put_said (Some (keys s)) os object key f = refl
-put_said (Some (pairs m)) os object key f = refl
-put_said (Some (line ws)) os object key f = refl
+call_said : (one : Op) (objects : Objects) → IsSaid (parts_of one) (call one objects).1
+call_said (op.Read object place) objects = word_said (op.Read object place) (address objects object place) objects refl (λ word. refl)
+call_said (op.Write object place word) objects = word_said (op.Write object place word) (address objects object place) objects refl (λ before. refl)
+call_said (op.Add object place word) objects = word_said (op.Add object place word) (address objects object place) objects refl (λ before. refl)
+call_said (op.Cas object place old new) objects = word_said (op.Cas object place old new) (address objects object place) objects refl (λ before. refl)
+call_said (op.Reduce object reducer place word) objects = word_said (op.Reduce object reducer place word) (address objects object place) objects refl (λ before. refl)
+call_said (op.Insert object key) objects = thing_said (op.Insert object key) (slice_get objects.things object) object (on_key key (op.Insert object key)) objects refl (λ thing. refl)
+call_said (op.Remove object key) objects = thing_said (op.Remove object key) (slice_get objects.things object) object (on_key key (op.Remove object key)) objects refl (λ thing. refl)
+call_said (op.Has object key) objects = thing_said (op.Has object key) (slice_get objects.things object) object (on_key key (op.Has object key)) objects refl (λ thing. refl)
+call_said (op.Put object key word) objects = thing_said (op.Put object key word) (slice_get objects.things object) object (on_key key (op.Put object key word)) objects refl (λ thing. refl)
+call_said (op.Get object key) objects = refl
+call_said (op.Erase object key) objects = thing_said (op.Erase object key) (slice_get objects.things object) object (on_key key (op.Erase object key)) objects refl (λ thing. refl)
+call_said (op.Merge object reducer key word) objects =
+    thing_said (op.Merge object reducer key word) (slice_get objects.things object) object (on_key key (op.Merge object reducer key word)) objects refl (λ thing. refl)
+call_said (op.Push object word) objects =
+    thing_said (op.Push object word) (slice_get objects.things object) object (on_line (op.Push object word)) objects refl (line_said (op.Push object word) refl (λ words. refl))
+call_said (op.Pop object) objects = refl
+call_said (op.Dequeue object) objects = refl
+call_said (op.Alloc count) objects = alloc_said (start_for objects count) count objects
+call_said (op.Free place) objects = refl
+call_said (op.Print word) objects = refl
 
-erase_said : (x : Option Object) (os : Objects) (object key : ℕ) → IsSaid 1 (erase_in x os object key).1
-erase_said None os object key = refl
-erase_said (Some (array from count)) os object key = refl
-erase_said (Some (keys s)) os object key = refl
-erase_said (Some (pairs m)) os object key = refl
-erase_said (Some (line ws)) os object key = refl
+-- Steps.
 
-push_said : (x : Option Object) (os : Objects) (object word : ℕ) → IsSaid 0 (push_in x os object word).1
-push_said None os object word = refl
-push_said (Some (array from count)) os object word = refl
-push_said (Some (keys s)) os object word = refl
-push_said (Some (pairs m)) os object word = refl
-push_said (Some (line ws)) os object word = refl
-
-alloc_said : (start : Option ℕ) (os : Objects) (count : ℕ) → IsSaid 1 (alloc_at start os count).1
-alloc_said None os count = refl
-alloc_said (Some start) os count = refl
-
--- How many words are written of an operation's reply.
-abbrev said_words : Op → ℕ
-said_words (ops.Write object place word) = 0
-said_words (ops.Push object word) = 0
-said_words (ops.Print word) = 0
-said_words (ops.Get object key) = 2
-said_words (ops.Pop object) = 2
-said_words (ops.Dequeue object) = 2
-said_words _ = 1
-
-call_said : (op : Op) (os : Objects) → IsSaid (said_words op) (call op os).1
-call_said (ops.Read object place) os = word_said _ os _
-call_said (ops.Write object place word) os = refl
-call_said (ops.Add object place word) os = word_said _ os _
-call_said (ops.Cas object place old new) os = word_said _ os _
-call_said (ops.Reduce object reducer place word) os = word_said _ os _
-call_said (ops.Insert object key) os = insert_said (slice_get os.things object) os object key
-call_said (ops.Remove object key) os = remove_said (slice_get os.things object) os object key
-call_said (ops.Has object key) os = has_said (slice_get os.things object) os key
-call_said (ops.Put object key word) os = put_said (slice_get os.things object) os object key _
-call_said (ops.Get object key) os = refl
-call_said (ops.Erase object key) os = erase_said (slice_get os.things object) os object key
-call_said (ops.Merge object reducer key word) os = put_said (slice_get os.things object) os object key _
-call_said (ops.Push object word) os = push_said (slice_get os.things object) os object word
-call_said (ops.Pop object) os = refl
-call_said (ops.Dequeue object) os = refl
-call_said (ops.Alloc count) os = alloc_said (start_for os count) os count
-call_said (ops.Free place) os = refl
-call_said (ops.Print word) os = refl
-
-when_true : (b : Bool) (S U : State) → when b S ≡ Some U → b ≡ true
-when_true true S U e = refl
-when_true false S U e = absurd (cc)
-
-both_true : (x y : Bool) → x && y ≡ true → (x ≡ true) × (y ≡ true)
-both_true true y e = (refl, e)
-both_true false y e = absurd (true≢false (sym e))
-
-same_is : (x y : Reply) → same_reply x y ≡ true → x ≡ y
-same_is x y e =
-    let same = both_true (x.first == y.first) (x.second == y.second) e in
-    let firsts : x.first ≡ y.first = eqb-true x.first y.first same.0 in
-    let seconds : x.second ≡ y.second = eqb-true x.second y.second same.1 in
+same_is : (one other : Reply) → same_reply one other ≡ true → one ≡ other
+same_is one other h =
+    let same = and_parts (one.first == other.first) (one.second == other.second) h in
+    let firsts : one.first ≡ other.first = eqb-true one.first other.first same.0 in
+    let seconds : one.second ≡ other.second = eqb-true one.second other.second same.1 in
     λ j. record { first = firsts j; second = seconds j }
 
-module _ (p : Program) (N L : ℕ) where
-  call_due : (S U : State) (id : TaskId) (t : Task) (due : Action) (op : Op) (w : Reply) → call_step p L S id t due op w ≡ Some U → w ≡ (call op S.objects).1
-  call_due S U id t (a.Call due) op w e =
-      same_is w (call op S.objects).1 (both_true (same_op due op) (same_reply w (call op S.objects).1) (when_true _ (called p L S id t op w) U e)).1
-  call_due S U id t (a.Spawn way target args) op w e = absurd (cc)
-  call_due S U id t a.Finish op w e = absurd (cc)
-  call_due S U id t a.Arrive op w e = absurd (cc)
-  call_due S U id t (a.Loop lo hi grain target args) op w e = absurd (cc)
-  call_due S U id t a.End op w e = absurd (cc)
-  call_due S U id t (a.Trap kind) op w e = absurd (cc)
+module _ (program : Program) (cores limit : ℕ) where
+  call_due : (state next : State) (id : TaskId) (task : Task) (due : Action) (one : Op) (reply : Reply) → call_step program limit state id task due one reply ≡ Some next → reply ≡ (call one state.objects).1
+  call_due state next id task (action.Call due) one reply h =
+      same_is reply (call one state.objects).1
+      (and_parts (same_op due one) (same_reply reply (call one state.objects).1) (cond_some _ (called program limit state id task one reply) next h).0).1
+  call_due state next id task (action.Spawn way target args) one reply h = cc
+  call_due state next id task action.Finish one reply h = cc
+  call_due state next id task action.Arrive one reply h = cc
+  call_due state next id task (action.Loop lo hi grain target args) one reply h = cc
+  call_due state next id task action.End one reply h = cc
+  call_due state next id task (action.Trap kind) one reply h = cc
 
   -- A legal call has the reply of its object.
-  call_reply : (S U : State) (id : TaskId) (op : Op) (w : Reply) → step p N L S (plain.Call id op w) ≡ Some U → w ≡ (call op S.objects).1
-  call_reply S U id op w = by (fin.get S.tasks id)
+  call_reply : (state next : State) (id : TaskId) (one : Op) (reply : Reply) → step program cores limit state (plain.Call id one reply) ≡ Some next → reply ≡ (call one state.objects).1
+  call_reply state next id one reply h =
+      option_and_then_some (if_going (λ task. call_step program limit state id task task.action one reply)) (fin.get state.tasks id) next h (λ task is_task. going task (is_going task.mode))
     where
-      going : (t : Task) (b : Bool) → (if b then call_step p L S id t t.action op w else None) ≡ Some U → w ≡ (call op S.objects).1
-      going t true e = call_due S U id t t.action op w e
-      going t false e = absurd (cc)
-
-      by : (found : Option Task) → option_and_then (if_going (λ t. call_step p L S id t t.action op w)) found ≡ Some U → w ≡ (call op S.objects).1
-      by None e = absurd (cc)
-      by (Some t) e = going t (is_going t.mode) e
+      going : (task : Task) (test : Bool) → (if test then call_step program limit state id task task.action one reply else None) ≡ Some next → reply ≡ (call one state.objects).1
+      going task true h = call_due state next id task task.action one reply h
+      going task false h = cc
 
   -- So the words that are written of it say it whole.
-  reply_said : (S U : State) (id : TaskId) (op : Op) (w : Reply) → step p N L S (plain.Call id op w) ≡ Some U → IsSaid (said_words op) w
-  reply_said S U id op w e = subst (λ (r : Reply). IsSaid (said_words op) r) (sym (call_reply S U id op w e)) (call_said op S.objects)
+  reply_said : (state next : State) (id : TaskId) (one : Op) (reply : Reply) → step program cores limit state (plain.Call id one reply) ≡ Some next → IsSaid (parts_of one) reply
+  reply_said state next id one reply h = subst (IsSaid (parts_of one)) (sym (call_reply state next id one reply h)) (call_said one state.objects)
 
-neither : (x y : Bool) → x || y ≡ false → (x ≡ false) × (y ≡ false)
-neither true y e = absurd (true≢false e)
-neither false y e = (refl, e)
+-- Calls.
 
-whole : (id : TaskId) (op : Op) (r w : Reply) → r ≡ w → Some (plain.Call id op r) ≡ Some (plain.Call id op w)
-whole id op r w same = ap (λ (reply : Reply). Some (plain.Call id op reply)) same
+-- Put together from its parts, with as many words as it takes, the call is named again.
+abbrev IsTogether : TaskId → Op → Reply → Parts → Type 0
+IsTogether task one reply (parts.Call operation object reducer words) =
+    call_at task operation reducer (take (argument_count operation) words) (reply_words operation reply) object ≡ Some (plain.Call task one (reply_of (reply_words operation reply)))
+IsTogether task one reply (parts.Print word) = one ≡ op.Print word
 
-unequal_names : (names : List (List ℕ)) (q : List ℕ) (k : ℕ) (name : List ℕ) → has names q ≡ false → slice_get names k ≡ Some name → bytes_eq q name ≡ false
-unequal_names [] q k name h at = absurd (cc)
-unequal_names (x ∷ xs) q zero name h at = let same : x ≡ name = cc in subst (λ (n : List ℕ). bytes_eq q n ≡ false) same (neither (bytes_eq q x) (has xs q) h).0
-unequal_names (x ∷ xs) q (suc k) name h at = unequal_names xs q k name (neither (bytes_eq q x) (has xs q) h).1 at
+together : (task : TaskId) (one : Op) (reply : Reply) → IsTogether task one reply (parts_of one)
+together task (op.Read object place) reply = refl
+together task (op.Write object place word) reply = refl
+together task (op.Add object place word) reply = refl
+together task (op.Cas object place old new) reply = refl
+together task (op.Reduce object reducer place word) reply = refl
+together task (op.Insert object key) reply = refl
+together task (op.Remove object key) reply = refl
+together task (op.Has object key) reply = refl
+together task (op.Put object key word) reply = refl
+together task (op.Get object key) reply = refl
+together task (op.Erase object key) reply = refl
+together task (op.Merge object reducer key word) reply = refl
+together task (op.Push object word) reply = refl
+together task (op.Pop object) reply = refl
+together task (op.Dequeue object) reply = refl
+together task (op.Alloc count) reply = refl
+together task (op.Free place) reply = refl
+together task (op.Print word) reply = refl
 
-module _ (p : Program) (once : IsOnce (object_names p.items)) (tasks : IsOnce (map (λ (t : TaskText). t.name) (tasks_of p.items))) (no_heap : has (object_names p.items) (codes "heap") ≡ false) where
-  object_found : (k : ℕ) (o : Option (List ℕ)) → slice_get (object_names p.items) k ≡ o → is_object_name (unwrap_or o []) ≡ true → object_named p (unwrap_or o []) ≡ Some k
-  object_found k None at h = absurd (true≢false (sym h))
-  object_found k (Some name) at h =
-      rw (bytes_eq_comm name (codes "heap") ∙ unequal_names (object_names p.items) (codes "heap") k name no_heap at) (once k name at)
+module _ (program : Program) (once : IsOnce (object_names program.items)) (tasks : IsOnce (task_names program.items)) (no_heap : has (object_names program.items) (codes "heap") ≡ false) where
+  -- Names.
+
+  no_other : (name : List ℕ) → bytes_eq (codes "heap") name ≡ false → bytes_eq name (codes "heap") ≡ false
+  no_other name h = false_from_ne_true (bytes_eq name (codes "heap"))
+      (λ same. true≢false (sym ((bytes_eq-Decides (codes "heap") name).1 (sym ((bytes_eq-Decides name (codes "heap")).0 same))) ∙ h))
+
+  object_found : (number : ℕ) (found : Option (List ℕ)) → slice_get (object_names program.items) number ≡ found → is_object_name (unwrap_or found []) ≡ true
+      → object_named program (unwrap_or found []) ≡ Some number
+  object_found number None at h = absurd (true≢false (sym h))
+  object_found number (Some name) at h =
+      rw (no_other name (any_false (bytes_eq (codes "heap")) (object_names program.items) number name no_heap at)) (once number name at)
 
   -- The name of an object's number has that number.
-  object_back : (k : ℕ) → is_object_name (object_name (names_of p) k) ≡ true → object_named p (object_name (names_of p) k) ≡ Some k
-  object_back k h = by (k == HEAP) refl h
+  object_back : (number : ℕ) → is_object_name (object_name program number) ≡ true → object_named program (object_name program number) ≡ Some number
+  object_back number h = by (number == HEAP) refl h
     where
-      by : (b : Bool) → k == HEAP ≡ b → is_object_name (if b then codes "heap" else name_at (object_names p.items) k) ≡ true
-          → object_named p (if b then codes "heap" else name_at (object_names p.items) k) ≡ Some k
-      by true is_heap named_so = ap (λ (n : ℕ). Some n) (sym (eqb-true k HEAP is_heap))
-      by false is_heap named_so = object_found k (slice_get (object_names p.items) k) refl named_so
+      by : (test : Bool) → number == HEAP ≡ test → is_object_name (if test then codes "heap" else name_at (object_names program.items) number) ≡ true
+          → object_named program (if test then codes "heap" else name_at (object_names program.items) number) ≡ Some number
+      by true is_heap h = ap (λ (n : ℕ). Some n) (sym (eqb-true number HEAP is_heap))
+      by false is_heap h = object_found number (slice_get (object_names program.items) number) refl h
 
-  task_found : (k : ℕ) (o : Option (List ℕ)) → slice_get (map (λ (t : TaskText). t.name) (tasks_of p.items)) k ≡ o → is_name (unwrap_or o []) ≡ true → task_named p (unwrap_or o []) ≡ Some k
-  task_found k None at h = absurd (true≢false (sym h))
-  task_found k (Some name) at h = sym (task_place name (tasks_of p.items)) ∙ tasks k name at
+  task_found : (number : ℕ) (found : Option (List ℕ)) → slice_get (task_names program.items) number ≡ found → is_name (unwrap_or found []) ≡ true → task_named program (unwrap_or found []) ≡ Some number
+  task_found number None at h = absurd (true≢false (sym h))
+  task_found number (Some name) at h = sym (position-map (bytes_eq name) (λ (task : TaskText). task.name) (tasks_of program.items)) ∙ tasks number name at
 
-  task_back : (k : ℕ) → is_name (name_at (names_of p).tasks k) ≡ true → task_named p (name_at (names_of p).tasks k) ≡ Some k
-  task_back k h = task_found k (slice_get (map (λ (t : TaskText). t.name) (tasks_of p.items)) k) refl h
-
-  call_back : (task : TaskId) (object : ℕ) (op : Operation) (reducer : Option ℕ) (numbers : List ℕ) (w : Reply) (x : Entry) → is_object_name (object_name (names_of p) object) ≡ true
-      → call_at task op reducer numbers (reply_words op w) object ≡ Some x → entry_in p (call_on (names_of p) task object op reducer numbers w) ≡ Some x
-  unfolding entry_in
-  call_back task object op reducer numbers w x h at = ap (option_and_then (call_at task op reducer numbers (reply_words op w))) (object_back object h) ∙ at
+  task_back : (number : ℕ) → is_name (task_name program number) ≡ true → task_named program (task_name program number) ≡ Some number
+  task_back number h = task_found number (slice_get (task_names program.items) number) refl h
 
   -- A call with its whole reply is named again.
-  named_call_back : (id : TaskId) (op : Op) (w : Reply) → IsSaid (said_words op) w → HasNames (named_call (names_of p) id op w) → entry_in p (named_call (names_of p) id op w) ≡ Some (plain.Call id op w)
+  call_back : (task : TaskId) (one : Op) (reply : Reply) (apart : Parts) → IsTogether task one reply apart → IsSaid apart reply → HasNames (named_parts program task apart reply)
+      → entry_in program (named_parts program task apart reply) ≡ Some (plain.Call task one reply)
   unfolding entry_in
-  named_call_back id (ops.Read object place) w said has_names = call_back id object o.Read None (place ∷ []) w _ has_names.0 (whole id (ops.Read object place) _ w said)
-  named_call_back id (ops.Write object place word) w said has_names = call_back id object o.Write None (place ∷ word ∷ []) w _ has_names.0 (whole id (ops.Write object place word) _ w said)
-  named_call_back id (ops.Add object place word) w said has_names = call_back id object o.Add None (place ∷ word ∷ []) w _ has_names.0 (whole id (ops.Add object place word) _ w said)
-  named_call_back id (ops.Cas object place old new) w said has_names = call_back id object o.Cas None (place ∷ old ∷ new ∷ []) w _ has_names.0 (whole id (ops.Cas object place old new) _ w said)
-  named_call_back id (ops.Reduce object reducer place word) w said has_names = call_back id object o.Reduce (Some reducer) (place ∷ word ∷ []) w _ has_names.0 (whole id (ops.Reduce object reducer place word) _ w said)
-  named_call_back id (ops.Insert object key) w said has_names = call_back id object o.Insert None (key ∷ []) w _ has_names.0 (whole id (ops.Insert object key) _ w said)
-  named_call_back id (ops.Remove object key) w said has_names = call_back id object o.Remove None (key ∷ []) w _ has_names.0 (whole id (ops.Remove object key) _ w said)
-  named_call_back id (ops.Has object key) w said has_names = call_back id object o.Has None (key ∷ []) w _ has_names.0 (whole id (ops.Has object key) _ w said)
-  named_call_back id (ops.Put object key word) w said has_names = call_back id object o.Put None (key ∷ word ∷ []) w _ has_names.0 (whole id (ops.Put object key word) _ w said)
-  named_call_back id (ops.Get object key) w said has_names = call_back id object o.Get None (key ∷ []) w _ has_names.0 (whole id (ops.Get object key) _ w said)
-  named_call_back id (ops.Erase object key) w said has_names = call_back id object o.Erase None (key ∷ []) w _ has_names.0 (whole id (ops.Erase object key) _ w said)
-  named_call_back id (ops.Merge object reducer key word) w said has_names = call_back id object o.Merge (Some reducer) (key ∷ word ∷ []) w _ has_names.0 (whole id (ops.Merge object reducer key word) _ w said)
-  named_call_back id (ops.Push object word) w said has_names = call_back id object o.Push None (word ∷ []) w _ has_names.0 (whole id (ops.Push object word) _ w said)
-  named_call_back id (ops.Pop object) w said has_names = call_back id object o.Pop None [] w _ has_names.0 (whole id (ops.Pop object) _ w said)
-  named_call_back id (ops.Dequeue object) w said has_names = call_back id object o.Dequeue None [] w _ has_names.0 (whole id (ops.Dequeue object) _ w said)
-  named_call_back id (ops.Alloc count) w said has_names = whole id (ops.Alloc count) _ w said
-  named_call_back id (ops.Free place) w said has_names = whole id (ops.Free place) _ w said
-  named_call_back id (ops.Print word) w said has_names = whole id (ops.Print word) _ w said
+  call_back task one reply (parts.Call operation object reducer words) whole said names =
+      ap (option_and_then (call_at task operation reducer (take (argument_count operation) words) (reply_words operation reply))) (object_back object names.0)
+      ∙ whole
+      ∙ ap (λ (r : Reply). Some (plain.Call task one r)) said
+  call_back task one reply (parts.Print word) whole said names = ap₂ (λ (o : Op) (r : Reply). Some (plain.Call task o r)) (sym whole) said
 
   -- A legal entry is named again.
-  entry_back : (N L : ℕ) (S U : State) (x : Entry) → step p N L S x ≡ Some U → HasNames (named p x) → entry_in p (named p x) ≡ Some x
+  entry_back : (cores limit : ℕ) (state next : State) (x : Entry) → step program cores limit state x ≡ Some next → HasNames (named program x) → entry_in program (named program x) ≡ Some x
   unfolding entry_in
-  entry_back N L S U (plain.Call id op w) is_step has_names = named_call_back id op w (reply_said p N L S U id op w is_step) has_names
-  entry_back N L S U (plain.Spawn id way target args child) is_step has_names = ap (option_map (λ t. plain.Spawn id way t args child)) (task_back target has_names)
-  entry_back N L S U (plain.Finish id) is_step has_names = refl
-  entry_back N L S U (plain.Loop id lo hi grain target args) is_step has_names = ap (option_map (λ t. plain.Loop id lo hi grain t args)) (task_back target has_names)
-  entry_back N L S U (plain.Begin owner index child) is_step has_names = refl
-  entry_back N L S U (plain.Pass id) is_step has_names = refl
-  entry_back N L S U (plain.End id) is_step has_names = refl
-  entry_back N L S U (plain.Trap id kind) is_step has_names = refl
-  entry_back N L S U plain.Over is_step has_names = refl
+  entry_back cores limit state next (plain.Call task one reply) h names = call_back task one reply (parts_of one) (together task one reply) (reply_said program cores limit state next task one reply h) names
+  entry_back cores limit state next (plain.Spawn task way target args child) h names = ap (option_map (λ number. plain.Spawn task way number args child)) (task_back target names)
+  entry_back cores limit state next (plain.Finish task) h names = refl
+  entry_back cores limit state next (plain.Loop task lo hi grain target args) h names = ap (option_map (λ number. plain.Loop task lo hi grain number args)) (task_back target names)
+  entry_back cores limit state next (plain.Begin owner index child) h names = refl
+  entry_back cores limit state next (plain.Pass task) h names = refl
+  entry_back cores limit state next (plain.End task) h names = refl
+  entry_back cores limit state next (plain.Trap task kind) h names = refl
+  entry_back cores limit state next plain.Over h names = refl
 
   -- A legal history is named again.
-  pub history_back : (N L : ℕ) (history : List Entry) (S T : State) → after p N L S history ≡ Some T → IsNamable p history → Names p (map (named p) history) history
-  history_back N L [] S T is_after namable = refl
-  history_back N L (x ∷ xs) S T is_after namable =
-      by (step p N L S x) refl is_after (All-head (λ y. HasNames (named p y)) x xs namable) (λ U h. history_back N L xs U T h (All-tail (λ y. HasNames (named p y)) x xs namable))
-    where
-      by : (r : Option State) → step p N L S x ≡ r → option_and_then (λ U. after p N L U xs) r ≡ Some T → HasNames (named p x)
-          → ((U : State) → after p N L U xs ≡ Some T → Names p (map (named p) xs) xs) → Names p (map (named p) (x ∷ xs)) (x ∷ xs)
-      by None is_step h has_names others = absurd (cc)
-      by (Some U) is_step h has_names others = ap₂ (λ (head : Option Entry) (tail : List (Option Entry)). head ∷ tail) (entry_back N L S U x is_step has_names) (others U h)
+  pub history_back : (cores limit : ℕ) (history : List Entry) (state last : State) → after program cores limit state history ≡ Some last → IsNamable program history
+      → Names program (map (named program) history) history
+  history_back cores limit [] state last h namable = refl
+  history_back cores limit (x ∷ xs) state last h namable =
+      option_and_then_some (λ next. after program cores limit next xs) (step program cores limit state x) last h
+      (λ next is_step others. ap₂ (λ (head : Option Entry) (tail : List (Option Entry)). head ∷ tail)
+      (entry_back cores limit state next x is_step (All-head (λ y. HasNames (named program y)) x xs namable))
+      (history_back cores limit xs next last others (All-tail (λ y. HasNames (named program y)) x xs namable)))

@@ -6,7 +6,7 @@ use Rattle.std.specs.Str.{bytes_eq}
 
 -- The lines of a source: what stands between its line feeds.
 abbrev pub lines_of : List ℕ → List (List ℕ)
-lines_of source = slice_split (λ b. b == 10) source
+lines_of source = slice_split (λ byte. byte == 10) source
 
 -- The place of the dividing line among them, where there is one.
 abbrev pub dividing_line : List ℕ → Option ℕ
@@ -19,8 +19,8 @@ closed (line ∷ more) = line ++ 10 ∷ closed more
 
 -- The program text is all before that line, and the whole source where there is none.
 unfoldable pub program_part : List ℕ → List ℕ
-program_part source = option_map_or (λ k. closed (take k (lines_of source))) (dividing_line source) source
+program_part source = option_map_or (λ place. closed (take place (lines_of source))) (dividing_line source) source
 
 -- The history text is all behind that line's own line feed, and empty where there is none.
 unfoldable pub history_part : List ℕ → List ℕ
-history_part source = option_map_or (λ k. join_with_byte 10 (drop (k + 1) (lines_of source))) (dividing_line source) []
+history_part source = option_map_or (λ place. join_with_byte 10 (drop (place + 1) (lines_of source))) (dividing_line source) []

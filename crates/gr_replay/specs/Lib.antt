@@ -1,6 +1,6 @@
 pub mod Entries
-pub mod NamesView
 pub mod Judged
-pub mod Advances
 pub mod Division
 pub mod Laws
+-- For proofs and private functions.
+pub mod AdvanceWords

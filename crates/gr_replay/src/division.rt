@@ -9,9 +9,9 @@ const DIVIDING_LINE: &str = "---";
 
 /// The number of bytes before the first line feed, or of all where there is none.
 fn line_len(text: &[u8]) -> usize
-    ensures { result ≡ position_or_len (λ b. b == 10) text.now }
+    ensures { result ≡ position_or_len (λ byte. byte == 10) text.now }
 {
-    text.iter().take_while(|b| **b != b'\n').count()
+    text.iter().take_while(|byte| **byte != b'\n').count()
 }
 
 fn is_line(line: &[u8], text: &str) -> bool
@@ -31,9 +31,9 @@ fn behind(text: &[u8], len: usize) -> &[u8]
     }
 }
 
-/// The program text, which is all before the first line that is exactly `---`, and the history text, which
-/// is all behind that line. Where there is no such line the whole source is the program text, and the
-/// history text is empty.
+/// The program text, which is all before the first line that is exactly `---`, and the history text,
+/// which is all behind that line. Where there is no such line the whole source is the program text, and
+/// the history text is empty.
 pub fn divide(source: &[u8]) -> (&[u8], &[u8])
     ensures program { result.0.now ≡ program_part source.now }
     ensures history { result.1.now ≡ history_part source.now }

@@ -1,40 +1,49 @@
 //! The entry that a line of a history text names in a program.
-ghost use Rattle.std.specs.Prelude.{◌≡◌, IfOk, is_some, length};
+ghost use Rattle.std.specs.Prelude.{◌≡◌, IfOk};
 ghost use Rattle.std.specs.Option.{option_and_then, option_map};
+ghost use Rattle.gr_syntax.specs.Items.{object_named, task_named};
 ghost use Rattle.gr_replay.specs.Entries as spec;
 
-use crate::names::Names;
-use gr_hist::text::NamedEntry;
-use gr_lang::{Entry, How, Op, Reply, TaskId};
-use gr_lang::{op_of, word_at};
-use gr_lang::Words;
 use gr_accept::Operation;
-use gr_syntax::Text;
+use gr_hist::NamedEntry;
+use gr_lang::{Entry, How, Op, Reply, TaskId, Words, op_of};
+use gr_names::ProgramNames;
+use gr_syntax::{HEAP, Text};
 use std::alloc::AllocError;
 
 /// Whether so many numbers, reply words and reducers are what the operation takes and gives.
-fn has_counts(op: Operation, reducer: Option<u64>, numbers: &[u64], reply: &[u64]) -> bool
-    ensures { result ≡ spec.has_counts op reducer numbers.now reply.now }
+fn has_counts(
+    operation: Operation,
+    reducer: Option<u64>,
+    numbers: &[u64],
+    words: &[u64],
+) -> bool
+    ensures { result ≡ spec.has_counts operation reducer numbers.now words.now }
 {
-    numbers.len() == op.argument_count()
-        && (reply.len() == op.result_count() && reducer.is_some() == op.takes_reducer())
+    numbers.len() == operation.argument_count()
+        && words.len() == operation.result_count()
+        && reducer.is_some() == operation.takes_reducer()
 }
 
 /// A word that isn't there is 0.
 fn reply_of(words: &[u64]) -> Reply
     ensures { result ≡ spec.reply_of words.now }
 {
-    Reply {
-        first: word_at(words, 0),
-        second: word_at(words, 1),
+    match words {
+        [] => Reply::nothing(),
+        [first] => Reply::one(*first),
+        [first, second, ..] => Reply {
+            first: *first,
+            second: *second,
+        },
     }
 }
 
 /// Whether the operation can be one of that object: only the heap allocates and frees.
-fn is_at(op: Operation, object: u64) -> bool
-    ensures { result ≡ spec.is_at op object }
+fn is_at(operation: Operation, object: u64) -> bool
+    ensures { result ≡ spec.is_at operation object }
 {
-    match op {
+    match operation {
         Operation::Alloc | Operation::Free => object == HEAP,
         _ => true,
     }
@@ -43,20 +52,20 @@ fn is_at(op: Operation, object: u64) -> bool
 /// The call of that object, if the operation takes and gives so many words there.
 fn call_at(
     task: TaskId,
-    op: Operation,
+    operation: Operation,
     reducer: Option<u64>,
     numbers: &[u64],
-    reply: &[u64],
+    words: &[u64],
     object: u64,
 ) -> Option<Entry>
-    ensures { result ≡ spec.call_at task op reducer numbers.now reply.now object }
+    ensures { result ≡ spec.call_at task operation reducer numbers.now words.now object }
 {
-    let fits = has_counts(op, reducer, numbers, reply) && is_at(op, object);
+    let fits = has_counts(operation, reducer, numbers, words) && is_at(operation, object);
     if fits {
         Some(Entry::Call {
             task,
-            op: op_of(op, object, reducer.unwrap_or(0), numbers),
-            reply: reply_of(reply),
+            op: op_of(operation, object, reducer.unwrap_or(0), numbers),
+            reply: reply_of(words),
         })
     } else {
         None
@@ -64,29 +73,31 @@ fn call_at(
 }
 
 fn call_in(
-    names: &Names,
+    names: &ProgramNames,
     task: TaskId,
     object: &Text,
-    op: Operation,
+    operation: Operation,
     reducer: Option<u64>,
     numbers: &[u64],
-    reply: &[u64],
+    words: &[u64],
 ) -> Option<Entry>
-    ensures { result ≡ option_and_then (spec.call_at task op reducer numbers.now reply.now) (spec.object_named names.now object.now) }
+    ensures { result ≡ option_and_then
+        (spec.call_at task operation reducer numbers.now words.now) (object_named names.now object.now) }
 {
     let object = names.object(object)?;
-    call_at(task, op, reducer, numbers, reply, object)
+    call_at(task, operation, reducer, numbers, words, object)
 }
 
 fn spawn_in(
-    names: &Names,
+    names: &ProgramNames,
     task: TaskId,
     how: How,
     target: &Text,
     args: &Words,
     child: TaskId,
 ) -> Result<Option<Entry>, AllocError>
-    ensures { IfOk result (λ found. found ≡ option_map (λ t. Entry.Spawn task how t args.now child) (spec.task_named names.now target.now)) }
+    ensures { IfOk result (λ found. found ≡ option_map
+        (λ number. Entry.Spawn task how number args.now child) (task_named names.now target.now)) }
 {
     match names.task(target) {
         None => Ok(None),
@@ -104,7 +115,7 @@ fn spawn_in(
 }
 
 fn loop_in(
-    names: &Names,
+    names: &ProgramNames,
     task: TaskId,
     lo: u64,
     hi: u64,
@@ -112,7 +123,8 @@ fn loop_in(
     target: &Text,
     args: &Words,
 ) -> Result<Option<Entry>, AllocError>
-    ensures { IfOk result (λ found. found ≡ option_map (λ t. Entry.Loop task lo hi grain t args.now) (spec.task_named names.now target.now)) }
+    ensures { IfOk result (λ found. found ≡ option_map
+        (λ number. Entry.Loop task lo hi grain number args.now) (task_named names.now target.now)) }
 {
     match names.task(target) {
         None => Ok(None),
@@ -138,7 +150,7 @@ fn nameless(line: &NamedEntry) -> Option<Entry>
         NamedEntry::Print { task, word } => Some(Entry::Call {
             task: *task,
             op: Op::Print { word: *word },
-            reply: reply_of(&[]),
+            reply: Reply::nothing(),
         }),
         NamedEntry::Finish { task } => Some(Entry::Finish { task: *task }),
         NamedEntry::Begin {
@@ -164,7 +176,7 @@ fn nameless(line: &NamedEntry) -> Option<Entry>
 /// The entry that the line names in the program; None where the program doesn't have a name of the line,
 /// or its operation takes or gives other words. An error is want of memory.
 #[tactic(auto, unfolding(crate::specs::Entries::entry_in))]
-pub fn entry_in(names: &Names, line: &NamedEntry) -> Result<Option<Entry>, AllocError>
+pub fn entry_in(names: &ProgramNames, line: &NamedEntry) -> Result<Option<Entry>, AllocError>
     ensures { IfOk result (λ found. found ≡ spec.entry_in names.now line.now) }
 {
     match line {

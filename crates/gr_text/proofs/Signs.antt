@@ -1,7 +1,7 @@
 -- Facts of each sign.
 use Rattle.std.proofs.Common.{◌≡◌, ℕ, zero, suc, ◌<◌, ◌≤◌, Bool, true, false, cond, [], ◌∷◌, length, get_or, take, Option, Some, None, refl, sym, ap, ◌∙◌, arith, inl, inr}
 use Rattle.std.specs.Prelude.{◌⊎◌, ◌==◌, ◌&&◌, if◌then◌else◌}
-use Rattle.std.proofs.lemmas.List.{length-take}
+use Rattle.std.proofs.lemmas.List.{length-take-le}
 use Rattle.std.proofs.lemmas.Bool.{eqb-true}
 use Rattle.gr_text.proofs.Runs.{and_first, and_second}
 use Rattle.gr_text.specs.declared.token.Sign.{Sign}
@@ -10,9 +10,6 @@ use Rattle.gr_text.specs.Spelling.{sign_bytes}
 use Rattle.gr_text.specs.FrontWords.{single_sign, double_sign, front_sign, or_else}
 use Rattle.gr_syntax.specs.Names.{is_letter, is_digit}
 use Rattle.gr_text.specs.Text.{Text, is_white}
-
-length-takes : (n : ℕ) (text : Text) → n ≤ length text → length (take n text) ≡ n
-length-takes n text h = omega (arith, length-take n text)
 
 few_or_many : (n : ℕ) → (n ≤ 1) ⊎ (1 < n)
 few_or_many zero = inl (omega arith)
@@ -164,7 +161,7 @@ found_at r more text within e = go more text within e (shape r)
         let k : a ∷ b ∷ take more rest ≡ x.a ∷ x.b ∷ [] = e ∙ x.bytes in
         let first : a ≡ x.a = cc in
         let second : b ≡ x.b = cc in
-        let size : suc (suc more) ≡ 2 = sym (length-takes (suc (suc more)) (a ∷ b ∷ rest) within) ∙ ap length k in
+        let size : suc (suc more) ≡ 2 = sym (length-take-le (suc (suc more)) (a ∷ b ∷ rest) within) ∙ ap length k in
         record { few = omega arith; one = λ h. absurd (omega arith); two = λ h. ap (λ (v : ℕ). double_sign v b) first ∙ ap (double_sign x.a) second ∙ x.found }
 
 pub sign_longest : (text : Text) (s : Sign) → front_sign text ≡ Some s → Spelled s text

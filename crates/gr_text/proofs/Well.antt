@@ -2,6 +2,7 @@
 use Rattle.std.proofs.Common.{◌≡◌, ◌≢◌, ℕ, zero, suc, ◌+◌, ◌-◌, ◌≤◌, ◌<◌, true, List, [], ◌∷◌, ◌++◌, length, get_or, take, drop, Ok, Err, refl, sym, ap, subst, ◌∙◌, arith}
 use Rattle.std.specs.Prelude.{All, slice_range, IsAscii}
 use Rattle.std.proofs.lemmas.List.{length-drop, drop-drop}
+use Rattle.std.proofs.lemmas.List.Elements.{All-cons, All-nil}
 use Rattle.std.proofs.lemmas.Str.Ascii.{IsAscii-from_reads}
 use Rattle.gr_text.specs.declared.token.Token.{Token}
 use Rattle.gr_text.specs.declared.token.TokenKind.{TokenKind}
@@ -35,16 +36,6 @@ rising_from : (a b : ℕ) (ts : List Token) → a ≤ b → IsRising b ts → Is
 rising_from a b [] h r = r
 rising_from a b (t ∷ ts) h r = (omega (arith, r.0), r.1)
 
-all_cons : (P : Token → Type 0) (t : Token) (ts : List Token) → P t → All P ts → All P (t ∷ ts)
-all_cons P t ts p all = λ k. go k
-  where
-    go : (k : ℕ) (d : Token) → k < length (t ∷ ts) → P (get_or (t ∷ ts) k d)
-    go zero d less = p
-    go (suc k) d less = all k d (omega arith)
-
-all_none : (P : Token → Type 0) → All P []
-all_none P = λ k d less. absurd (omega arith)
-
 no_end_token : (bytes : Text) → IsToken kinds.End bytes → ⊥
 no_end_token [] t = t
 no_end_token (b ∷ bytes) t = t
@@ -77,8 +68,8 @@ end_from : (whole : Text) (at : ℕ) (ts : List Token) → at ≡ length whole �
 end_from whole at ts here e = subst (λ (x : List Token). From whole at x) e (record {
   front = [];
   parts = ap (λ (n : ℕ). token_at whole kinds.End n 0 ∷ []) here;
-  no_end = all_none (λ t. t.kind ≢ kinds.End);
-  tokens_of = all_none (IsTokenOf whole);
+  no_end = All-nil (λ t. t.kind ≢ kinds.End);
+  tokens_of = All-nil (IsTokenOf whole);
   rise = (omega arith, tt);
 })
 
@@ -86,8 +77,8 @@ more_from : (whole : Text) (kind : TokenKind) (at len : ℕ) (text : Text) (us t
 more_from whole kind at len text us ts here size t fit h e = subst (λ (x : List Token). From whole at x) e (record {
   front = token_at whole kind at len ∷ h.front;
   parts = ap (λ (x : List Token). token_at whole kind at len ∷ x) h.parts;
-  no_end = all_cons (λ t. t.kind ≢ kinds.End) (token_at whole kind at len) h.front (kind_not_end kind (take len text) t.token) h.no_end;
-  tokens_of = all_cons (IsTokenOf whole) (token_at whole kind at len) h.front (token_of whole kind at len text here size t fit) h.tokens_of;
+  no_end = All-cons (λ t. t.kind ≢ kinds.End) (token_at whole kind at len) h.front (kind_not_end kind (take len text) t.token) h.no_end;
+  tokens_of = All-cons (IsTokenOf whole) (token_at whole kind at len) h.front (token_of whole kind at len text here size t fit) h.tokens_of;
   rise = (omega arith, h.rise);
 })
 

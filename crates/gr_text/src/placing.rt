@@ -4,8 +4,8 @@ ghost use Rattle.gr_text.specs.Places.{after_byte, after_bytes, place_of};
 
 use gr_syntax::Place;
 
-/// The line and the column of this place of the text, which is in bytes from its start and at most at its end. Both
-/// count from 1, and columns count bytes.
+/// The line and the column of this place of the text, which is in bytes from its start and at most at its
+/// end. Both count from 1, and columns count bytes.
 pub fn place(text: &[u8], at: u64) -> Place
     requires { at ≤ length text.now }
     ensures { result ≡ place_of text.now at }

@@ -20,8 +20,7 @@ use Rattle.gr_text.specs.declared.token.TokenKind.{TokenKind}
 use Rattle.gr_text.specs.declared.token.TokenKind.TheVariants as kind
 use Rattle.gr_text.proofs.Named.{named_token}
 use Rattle.gr_text.proofs.Well.{well}
-use Rattle.gr_parse.specs.Tok.{Tok, tok_of, tok_of_kind, tok_of_word, toks}
-use Rattle.gr_parse.specs.Operands.{Toks}
+use Rattle.gr_parse.specs.Tok.{Tok, tok_of, tok_of_kind, tok_of_word, toks, Toks}
 use Rattle.gr_parse.specs.Grammar.{IsItem, IsProgram, IsProgramOf}
 use Rattle.gr_parse.proofs.Whole.{Cut, cut}
 use Rattle.gr_hist.specs.Naming.{IsNamed}
@@ -81,18 +80,18 @@ TaskNames items = All IsNameOf (map (λ (t : TaskText). t.name) (tasks_of items)
 
 -- An item that its tokens name well, before others.
 item_named : (ts : Toks) (item : Item) (more : List Item) → IsItem ts item → AreNaming ts → ObjectNames more → TaskNames more → ObjectNames (item ∷ more) × TaskNames (item ∷ more)
-item_named _ _ more (IsItem.array {n} {w}) h objects tasks = (All-cons IsNameOf n.text (object_names more) h.1.0 objects, tasks)
-item_named _ _ more (IsItem.set {n}) h objects tasks = (All-cons IsNameOf n.text (object_names more) h.1.0 objects, tasks)
-item_named _ _ more (IsItem.map {n}) h objects tasks = (All-cons IsNameOf n.text (object_names more) h.1.0 objects, tasks)
-item_named _ _ more (IsItem.vector {n}) h objects tasks = (All-cons IsNameOf n.text (object_names more) h.1.0 objects, tasks)
+item_named _ _ more (IsItem.array {name = n} {size = w}) h objects tasks = (All-cons IsNameOf n.text (object_names more) h.1.0 objects, tasks)
+item_named _ _ more (IsItem.set {name = n}) h objects tasks = (All-cons IsNameOf n.text (object_names more) h.1.0 objects, tasks)
+item_named _ _ more (IsItem.map {name = n}) h objects tasks = (All-cons IsNameOf n.text (object_names more) h.1.0 objects, tasks)
+item_named _ _ more (IsItem.vector {name = n}) h objects tasks = (All-cons IsNameOf n.text (object_names more) h.1.0 objects, tasks)
 item_named _ _ more IsItem.heap h objects tasks = (objects, tasks)
 item_named _ _ more IsItem.show h objects tasks = (objects, tasks)
 item_named _ _ more (IsItem.input numbers) h objects tasks = (objects, tasks)
-item_named _ _ more (IsItem.task {n} params body) h objects tasks = (objects, All-cons IsNameOf n.text (map (λ (t : TaskText). t.name) (tasks_of more)) h.1.0 tasks)
+item_named _ _ more (IsItem.task {name = n} params body) h objects tasks = (objects, All-cons IsNameOf n.text (map (λ (t : TaskText). t.name) (tasks_of more)) h.1.0 tasks)
 
 items_named : (ts : Toks) (items : List Item) → Repeated IsItem ts items → AreNaming ts → ObjectNames items × TaskNames items
 items_named _ _ Repeated.none h = (All-nil IsNameOf, All-nil IsNameOf)
-items_named _ _ (Repeated.one_more {ts} {us} {x} {xs} one rest) h =
+items_named _ _ (Repeated.one_more {front = ts} {back = us} {first = x} {others = xs} one rest) h =
     let m = items_named us xs rest (back_naming ts us h) in
     item_named ts x xs one (front_naming ts us h) m.0 m.1
 

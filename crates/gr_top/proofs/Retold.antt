@@ -12,7 +12,8 @@ use Rattle.gr_cli.specs.Options.{IsWithinLimits}
 use Rattle.gr_cli.specs.declared.settings.Options.{Options}
 use Rattle.gr_cli.proofs.Limits.{options_are_within}
 use Rattle.gr_hist.specs.Grammar.{ReadsText}
-use Rattle.gr_hist.specs.Naming.{IsNamed, history_text, named}
+use Rattle.gr_hist.specs.Naming.{IsNamed, history_text, named, named_history}
+use Rattle.gr_hist.specs.Grammar.{IsHeader}
 use Rattle.gr_hist.proofs.Namables.{final_of, legal_namable}
 use Rattle.gr_replay.specs.Judged.{Judged}
 use Rattle.gr_replay.specs.Judged as verdict
@@ -21,7 +22,7 @@ use Rattle.gr_replay.proofs.RoundTrips.{history_back}
 use Rattle.gr_replay.proofs.Uniques.{objects_once, tasks_once}
 use Rattle.gr_top.specs.Commands.{asked}
 use Rattle.gr_top.specs.Due.{accepted, judged}
-use Rattle.gr_top.specs.Readings.{ReadsAs, ReplaysAs, IsRunOf, IsRunAsked, IsWorldOf, IsRetold, told_as}
+use Rattle.gr_top.specs.Readings.{ReadsAs, ReplaysAs, IsRunOf, IsRunAsked, IsWorldOf, IsRetold}
 use Rattle.gr_top.specs.declared.answer.WorldEnd.{WorldEnd}
 use Rattle.gr_top.proofs.Once.{once}
 use Rattle.gr_top.proofs.Namings.{accepted_named, accepted_is, no_heap}
@@ -38,10 +39,13 @@ legal_judged p N L h taken names is_legal =
     subst (λ (b : Bool). Judged p N L (map (named p) h) (verdict.legal b)) (sym whole)
     (Judged.is_legal h f.0 (names_again p N L h f.0 taken (no_heap p names) f.1 (legal_namable p N L h taken names is_legal)) f.1)
 
+header_of : (o : Options) → IsWithinLimits o → IsHeader o.cores o.steps
+header_of o within = record { some_core = within.few_cores.0; most_cores = within.few_cores.1; some_step = within.few_steps.0; most_steps = within.few_steps.1 }
+
 run_retold : (o : Options) (p : Program) (bytes : List ℕ) (world : WorldEnd) → ReadsAs bytes (accepted p) → o.history ≡ true → IsWithinLimits o → IsRunOf o p world
     → ReplaysAs bytes (history_text p o.cores o.steps world.history) (judged (verdict.legal (complete p o.cores o.steps world.history)))
 run_retold o p bytes world reads asks within run =
-    ReplaysAs.of_history {h = told_as o p world.history} reads (run.told asks within) (legal_judged p o.cores o.steps world.history (accepted_is bytes p reads) (accepted_named bytes p reads) run.legal)
+    ReplaysAs.of_history {h = named_history p o.cores o.steps world.history} reads (run.told asks (header_of o within)) (legal_judged p o.cores o.steps world.history (accepted_is bytes p reads) (accepted_named bytes p reads) run.legal)
 
 same_options : (words : List (String Global)) (o q : Options) → asked words ≡ Some o → asked words ≡ Some q → o ≡ q
 same_options words o q x y = let k : Some o ≡ Some q = sym x ∙ y in cc

@@ -20,9 +20,7 @@ use Rattle.gr_cli.specs.declared.settings.Command.{Command}
 use Rattle.gr_cli.specs.declared.settings.Command.TheVariants.{Run, Check, Replay, Bench}
 use Rattle.gr_hist.specs.declared.text.HistoryText.{HistoryText}
 use Rattle.gr_hist.specs.Grammar.{ReadsText}
-use Rattle.gr_hist.specs.Naming.{history_text, named}
-use Rattle.gr_cli.specs.Options.{IsWithinLimits}
-use Rattle.gr_lang.specs.declared.action.Entry.{Entry}
+use Rattle.gr_hist.specs.Naming.{history_text, ReadsBack}
 use Rattle.gr_replay.specs.Division.{program_part, history_part}
 use Rattle.gr_replay.specs.Judged.{Verdict, Judged}
 use Rattle.gr_replay.specs.Judged as verdict
@@ -65,15 +63,11 @@ Answered words bytes before now Memory world = Keeps before now × (world ≡ No
 Answered words bytes before now ReadFault world = Keeps before now × (world ≡ None)
 Answered words bytes before now refusal world = (d : Due) × IsDue words bytes world d × Came d before now refusal world
 
--- A history of the program as its text tells it.
-abbrev pub told_as : Options → Program → List Entry → HistoryText
-told_as o p history = record { cores = o.cores; steps = o.steps; lines = map (named p) history }
-
 -- A run that is kept is one of the program that the text reads as: its history is legal, and complete or trapped, and its text, where that is asked for, reads as it.
 pub record IsRunOf (o : Options) (p : Program) (world : WorldEnd) : Type 0 where
   pub legal : legal p o.cores o.steps world.history ≡ true
   pub ends : (complete p o.cores o.steps world.history ≡ true) ⊎ (is_some (first_trap world.history) ≡ true)
-  pub told : o.history ≡ true → IsWithinLimits o → ReadsText (history_text p o.cores o.steps world.history) (Ok (told_as o p world.history))
+  pub told : o.history ≡ true → ReadsBack p o.cores o.steps world.history (history_text p o.cores o.steps world.history)
 
 pub record IsRunAsked (words : List (String Global)) (bytes : List ℕ) (world : WorldEnd) : Type 0 where
   pub options : Options

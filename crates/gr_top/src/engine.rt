@@ -1,14 +1,12 @@
 //! From options and a text to an answer that is whole before a byte is written.
-ghost use Rattle.std.specs.Prelude.{◌≡◌, ◌++◌, ◌⊎◌, true, IfOk, IfSome, OnOk, None, Some, Ok, is_some};
+ghost use Rattle.std.specs.Prelude.{◌≡◌, ◌++◌, ◌⊎◌, true, IfOk, IfSome, OnOk, None, Some, is_some};
 ghost use Rattle.gr_top.specs.Texts.{first_trap};
 ghost use Rattle.gr_syntax.specs.declared.syntax.Program.{Program};
 ghost use Rattle.gr_lang.specs.Histories.{legal};
-ghost use Rattle.gr_cli.specs.Options.{IsWithinLimits};
-ghost use Rattle.gr_hist.specs.Grammar.{ReadsText};
-ghost use Rattle.gr_hist.specs.Naming.{IsNamed, history_text};
+ghost use Rattle.gr_hist.specs.Naming.{IsNamed, ReadsBack, history_text};
 ghost use Rattle.gr_top.specs.Commands.{is_on_text, is_run as is_run_today};
 ghost use Rattle.gr_top.specs.Due.{Reading, accepted as accepted_as, not_built as not_built_fault, due_read, due_accepted, due_run, due_of_run, due_refused, followed, told, IsWritten};
-ghost use Rattle.gr_top.specs.Readings.{ReadsAs, IsRunOf, told_as};
+ghost use Rattle.gr_top.specs.Readings.{ReadsAs, IsRunOf};
 ghost use Rattle.gr_top.specs.AnswerView.{made};
 
 use crate::answer::{Answer, Refusal, WorldEnd};
@@ -109,8 +107,8 @@ fn add_history(
 ) -> Result<(), AllocError>
     requires { IsNamed program.now }
     ensures text { OnOk result (text.new.items ≡ text.old.items ++ told options.history program.now options.cores options.steps history.now) }
-    ensures reads { OnOk result (options.history ≡ true → legal program.now options.cores options.steps history.now ≡ true → IsWithinLimits options
-        → ReadsText (history_text program.now options.cores options.steps history.now) (Ok (told_as options program.now history.now))) }
+    ensures reads { OnOk result (options.history ≡ true → legal program.now options.cores options.steps history.now ≡ true
+        → ReadsBack program.now options.cores options.steps history.now (history_text program.now options.cores options.steps history.now)) }
 {
     if options.history {
         let lines = write(alloc, program, options.cores, options.steps, history)?;

@@ -4,7 +4,7 @@ use Rattle.gr_meets.proofs.FirstFaults.{found, only, first_fault, stops, only_on
 use Rattle.gr_meets.proofs.laws.example_is_exact.Goals as goal
 
 pub returns-clause-found : goal.returns-clause-found
-returns-clause-found c = λ limit turns ts lines rest h. found (exact limit) turns ts lines rest h
+returns-clause-found c = λ limit turns ts rest lines h. found (exact limit) turns ts lines rest h
 
 pub returns-clause-complete : goal.returns-clause-complete
 returns-clause-complete c = λ limit turns ts lines h few. (exact limit).reads turns ts lines h few

@@ -1,6 +1,6 @@
 use Rattle.std.proofs.Common.{rules, arith}
 use Rattle.std.proofs.lemmas.Grind.{common_steps}
-use Rattle.gr_parse.specs.Operands.{plenty}
+use Rattle.gr_parse.specs.OperandsWords.{plenty}
 use Rattle.gr_parse.proofs.Steps.{args_zero}
 use Rattle.gr_parse.proofs.arguments.args.Goals as goal
 

@@ -3,9 +3,9 @@ use Rattle.std.proofs.lemmas.Grind.{common_steps}
 use Rattle.gr_syntax.specs.declared.syntax.Item.{Item}
 use Rattle.gr_meets.specs.Parsers as read
 use Rattle.gr_meets.proofs.Runs.{run_end, run_go}
-use Rattle.gr_parse.specs.Tok as tok
-use Rattle.gr_parse.specs.Parsing as spec
-use Rattle.gr_parse.specs.Parsing.{program}
+use Rattle.gr_parse.specs.TokWords as tok
+use Rattle.gr_parse.specs.ParsingWords as spec
+use Rattle.gr_parse.specs.ParsingWords.{program}
 use Rattle.gr_parse.proofs.Steps.{plenty_is, never_end}
 use Rattle.gr_parse.proofs.Shorter.{item_takes}
 use Rattle.gr_parse.proofs.declarations.items.Goals as goal

@@ -1,6 +1,6 @@
 use Rattle.std.proofs.Common.{◌≡◌, ℕ, ◌<◌, ◌^◌, [], length}
 use Rattle.gr_meets.specs.Parsers as read
-use Rattle.gr_parse.specs.Parsing as spec
+use Rattle.gr_parse.specs.ParsingWords as spec
 use Rattle.gr_parse.proofs.declarations.items.Given as goal
 
 abbrev pub invariant-each : goal.invariant-each

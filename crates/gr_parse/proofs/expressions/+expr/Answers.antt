@@ -3,8 +3,8 @@ use Rattle.std.proofs.lemmas.Grind.{common_steps}
 use Rattle.gr_syntax.specs.declared.syntax.Expr.{Expr}
 use Rattle.gr_meets.specs.Parsers as read
 use Rattle.gr_meets.proofs.Chains.{chain_none, chain_full, chain_some}
-use Rattle.gr_parse.specs.Tok as tok
-use Rattle.gr_parse.specs.Operands as spec
+use Rattle.gr_parse.specs.TokWords as tok
+use Rattle.gr_parse.specs.OperandsWords as spec
 use Rattle.gr_parse.proofs.Exprs.{levels_less}
 use Rattle.gr_parse.proofs.Steps.{levels_step}
 use Rattle.gr_parse.proofs.expressions.+expr.Invariants.{operand}

@@ -1,7 +1,7 @@
 use Rattle.std.proofs.Common.{◌≡◌, ℕ, ◌<◌, ◌+◌, ◌*◌}
 use Rattle.gr_meets.specs.Parsers as read
-use Rattle.gr_parse.specs.Tok as tok
-use Rattle.gr_parse.specs.Operands as spec
+use Rattle.gr_parse.specs.TokWords as tok
+use Rattle.gr_parse.specs.OperandsWords as spec
 use Rattle.gr_parse.proofs.expressions.+expr.Given as goal
 
 abbrev pub decreases-unary : goal.decreases-unary

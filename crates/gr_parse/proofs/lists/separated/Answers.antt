@@ -3,8 +3,8 @@ use Rattle.std.proofs.lemmas.Grind.{common_steps}
 use Rattle.gr_text.specs.declared.token.Sign.TheVariants as signs
 use Rattle.gr_meets.specs.Parsers as read
 use Rattle.gr_meets.proofs.Commas.{commas_end, commas_go}
-use Rattle.gr_parse.specs.Tok as tok
-use Rattle.gr_parse.specs.Operands as spec
+use Rattle.gr_parse.specs.TokWords as tok
+use Rattle.gr_parse.specs.OperandsWords as spec
 use Rattle.gr_parse.proofs.Steps.{plenty_is, separated_step, next_less}
 use Rattle.gr_parse.proofs.lists.separated.Goals as goal
 

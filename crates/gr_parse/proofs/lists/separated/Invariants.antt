@@ -1,8 +1,8 @@
 use Rattle.std.proofs.Common.{◌≡◌, ℕ, ◌<◌, ◌^◌, length}
 use Rattle.gr_text.specs.declared.token.Sign.TheVariants as signs
 use Rattle.gr_meets.specs.Parsers as read
-use Rattle.gr_parse.specs.Tok as tok
-use Rattle.gr_parse.specs.Operands as spec
+use Rattle.gr_parse.specs.TokWords as tok
+use Rattle.gr_parse.specs.OperandsWords as spec
 use Rattle.gr_parse.proofs.lists.separated.Given as goal
 
 abbrev pub invariant-each : goal.invariant-each

@@ -6,4 +6,4 @@ make-requires c = can_make c.states_stay_valid.ensures.steps _ _ _ _ _ _ c.requi
 
 pub returns-clause-counted : goal.returns-clause-counted
 returns-clause-counted c =
-    made_counted c.states_stay_valid.ensures.steps _ _ _ _ _ _ _ c.requires c.in_ok-step.ensures.ok c.change-change.ensures c.task_count.ensures c.task_count.type_inv c.in_ok-make.ensures
+    made_counted c.states_stay_valid.ensures.steps _ _ _ _ _ _ _ c.requires c.in_ok-step.ensures.ok c.change-change.ensures c.task_count.ensures c.task_count.type_inv c.in_ok-make.ensures.ok

@@ -1,6 +1,0 @@
-use Rattle.std.proofs.Common.{◌≡◌, ◌++◌, drop, map}
-use Rattle.gr_syntax.specs.Items.{tasks_of}
-use Rattle.gr_replay.proofs.names.task_names_of.Given as goal
-
-abbrev pub invariant-loop-item : goal.invariant-loop-item
-invariant-loop-item l = map (λ n. n.now) l.names.items ++ map (λ t. t.name) (tasks_of (drop l.item-index l.items)) ≡ map (λ t. t.name) (tasks_of l.items)
