@@ -1,6 +1,7 @@
 -- What is visible only grows within a block.
 use Rattle.std.proofs.Common.{◌≡◌, ℕ, Bool, true, false, if◌then◌else◌, List, [], ◌∷◌, ◌++◌, length, take, refl, ap, sym, subst, ◌∙◌}
 use Rattle.std.proofs.lemmas.List.{append-nil, append_assoc}
+use Rattle.std.proofs.Math.Seq.{take-append_seam}
 use Rattle.gr_syntax.specs.declared.syntax.Name.{Name}
 use Rattle.gr_syntax.specs.declared.syntax.Stmt.{Stmt, fold-Stmt, out-Stmt, roll-Stmt, roll-out-Stmt}
 use Rattle.gr_syntax.specs.declared.syntax.Stmt.TheFolds.{fold-roll-Stmt}
@@ -51,10 +52,6 @@ grows-stmts : (ss : List Stmt) (s : LexicalScope) → Grows s.visible (stmts ss 
 grows-stmts [] s = same s.visible
 grows-stmts (st ∷ ss) s = joined s.visible (stmt st s).scope.visible _ (grows-stmt st s) (grows-stmts ss (stmt st s).scope)
 
-take-all : (a more : List (List ℕ)) → take (length a) (a ++ more) ≡ a
-take-all [] more = refl
-take-all (x ∷ a) more = ap (λ l. x ∷ l) (take-all a more)
-
 -- after a block the names before it are visible
 pub restored : (ss : List Stmt) (s : LexicalScope) → take (length s.visible) (stmts ss s).scope.visible ≡ s.visible
-restored ss s = let g = grows-stmts ss s in ap (take (length s.visible)) g.is ∙ take-all s.visible g.more
+restored ss s = let g = grows-stmts ss s in ap (take (length s.visible)) g.is ∙ take-append_seam s.visible g.more

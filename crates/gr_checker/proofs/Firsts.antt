@@ -1,16 +1,12 @@
 -- The least of a list is its first.
 use Rattle.std.proofs.Common.{◌==◌, nat_lt, subst, slice_index_or, ◌≡◌, ℕ, zero, suc, ◌<◌, Bool, true, false, if◌then◌else◌, List, [], ◌∷◌, length, Option, Some, None, Contains, refl, sym, ap, ◌∙◌, arith, ◌⊎◌, inl, inr}
-use Rattle.std.specs.List.{All}
 use Rattle.std.proofs.lemmas.Bool.Decides.{nat_tests}
+use Rattle.std.proofs.lemmas.List.Elements.{All-cons}
 use Rattle.gr_syntax.specs.Faults.{comes_before, rank, IsFirst}
-use Rattle.gr_checker.specs.Earliest.{least}
+use Rattle.gr_checker.specs.EarliestWords.{least}
 use Rattle.gr_syntax.specs.declared.refusal.Fault.{Fault}
 use Rattle.gr_syntax.specs.declared.refusal.Kind.{Kind}
 use Rattle.gr_syntax.specs.declared.refusal.Kind.TheVariants as k
-
-all-cons : {X : Type 0} (P : X → Type 0) (x : X) (xs : List X) → P x → All P xs → All P (x ∷ xs)
-all-cons P x xs p ps zero d h = p
-all-cons P x xs p ps (suc j) d h = ps j d (omega arith)
 
 abbrev head : {X : Type 0} (x : X) (xs : List X) → Contains (x ∷ xs) x
 head x xs = (0, omega arith, refl)
@@ -59,7 +55,7 @@ least-is : (fs : List Fault) (g : Fault) → Least g fs
 least-is [] g = record {
   first_one = g;
   is = refl;
-  holds = record { among = head g []; first = all-cons (λ y. comes_before y g ≡ false) g [] (irreflexive g) (λ k d h. absurd (omega arith)) };
+  holds = record { among = head g []; first = All-cons (λ y. comes_before y g ≡ false) g [] (irreflexive g) (λ k d h. absurd (omega arith)) };
 }
 least-is (x ∷ fs) g = by (comes_before x g) refl (least-is fs x) (least-is fs g)
   where
@@ -69,7 +65,7 @@ least-is (x ∷ fs) g = by (comes_before x g) refl (least-is fs x) (least-is fs 
       is = rw e a.is;
       holds = record {
         among = tail g a.first_one (x ∷ fs) a.holds.among;
-        first = all-cons (λ y. comes_before y a.first_one ≡ false) g (x ∷ fs) (after_all x g a.first_one e (a.holds.first 0 x (omega arith))) a.holds.first;
+        first = All-cons (λ y. comes_before y a.first_one ≡ false) g (x ∷ fs) (after_all x g a.first_one e (a.holds.first 0 x (omega arith))) a.holds.first;
       };
     }
     by false e a b = record {
@@ -77,8 +73,8 @@ least-is (x ∷ fs) g = by (comes_before x g) refl (least-is fs x) (least-is fs 
       is = rw e b.is;
       holds = record {
         among = later b.holds.among.0 b.holds.among.1 b.holds.among.2;
-        first = all-cons (λ y. comes_before y b.first_one ≡ false) g (x ∷ fs) (b.holds.first 0 g (omega arith))
-            (all-cons (λ y. comes_before y b.first_one ≡ false) x fs (not_before x g b.first_one (b.holds.first 0 g (omega arith)) e)
+        first = All-cons (λ y. comes_before y b.first_one ≡ false) g (x ∷ fs) (b.holds.first 0 g (omega arith))
+            (All-cons (λ y. comes_before y b.first_one ≡ false) x fs (not_before x g b.first_one (b.holds.first 0 g (omega arith)) e)
             (λ k d h. b.holds.first (suc k) d (omega arith)));
       };
     }

@@ -1,5 +1,5 @@
 -- One level of a statement, as a walk after walks.
-use Rattle.std.proofs.Common.{refl, ◌∷◌, ◌≡◌, Bool, List, [], map, ap}
+use Rattle.std.proofs.Common.{refl, ◌≡◌, Bool, List, [], ◌∷◌, map, ap}
 use Rattle.gr_syntax.specs.declared.syntax.Name.{Name}
 use Rattle.gr_syntax.specs.declared.syntax.Expr.{Expr}
 use Rattle.gr_syntax.specs.declared.syntax.Right.{Right}
@@ -7,16 +7,17 @@ use Rattle.gr_syntax.specs.declared.syntax.HowText.{HowText}
 use Rattle.gr_syntax.specs.declared.syntax.CallText.{CallText}
 use Rattle.gr_syntax.specs.declared.syntax.Stmt.{Stmt, the_lemmas}
 use Rattle.gr_syntax.specs.declared.syntax.Stmt.TheVariants as s
-use Rattle.gr_accept.specs.Declarations.{Meaning}
 use Rattle.gr_accept.specs.Walks.{Part, only, both, all, closed, targets, expr_sites, call_sites, right_sites, spawn_sites, forall_sites, stmt, stmts}
-use Rattle.gr_checker.specs.Walked.{scope_of, after}
+use Rattle.gr_checker.specs.MeaningView.{meaning_of}
+use Rattle.gr_checker.specs.WalkView.{scope_of, after}
 use Rattle.gr_checker.specs.declared.walk.Walk.{Walk}
 use Rattle.gr_checker.proofs.Leasts.{seen-append}
 
-pub after-both : (m : Meaning) (w : Walk) (f g : Part) → after m w (both f g) ≡ after m (after m w f) g
-after-both m w f g = ap
-    (λ x. record { found = x; named = (g (f (scope_of w)).scope).scope.named; visible = (g (f (scope_of w)).scope).scope.visible })
-    (seen-append m w.found (f (scope_of w)).sites (g (f (scope_of w)).scope).sites)
+pub after-both : (w : Walk) (f g : Part) → after w (both f g) ≡ after (after w f) g
+after-both w f g =
+    let scope = (g (f (scope_of w)).scope).scope in
+    ap (λ x. record { found = x; scope = record { meanings = w.scope.meanings; named = scope.named; visible = scope.visible } })
+    (seen-append (meaning_of w.scope.meanings.now) w.found (f (scope_of w)).sites (g (f (scope_of w)).scope).sites)
 
 pub all-stmts : (ss : List Stmt) → all (map stmt ss) ≡ stmts ss
 all-stmts [] = refl

@@ -1,5 +1,7 @@
-pub mod Earliest
-pub mod Meanings
-pub mod Walked
-pub mod Heads
 pub mod Refusals
+-- For proofs and private functions.
+pub mod EarliestWords
+pub mod MeaningView
+pub mod ScopeView
+pub mod WalkView
+pub mod HeadsView

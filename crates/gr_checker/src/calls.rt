@@ -1,71 +1,67 @@
 //! Expressions and calls.
 ghost use Rattle.std.specs.Prelude.{◌≡◌, [], ◌∷◌, slice_get};
-ghost use Rattle.gr_checker.specs.Earliest.{least, seen};
+ghost use Rattle.gr_checker.specs.EarliestWords.{least, seen};
 ghost use Rattle.gr_accept.specs.Conditions as spec;
 ghost use Rattle.gr_accept.specs.Sites.{mentions, calls, starts, shows};
-ghost use Rattle.gr_checker.specs.Meanings.{named};
+ghost use Rattle.gr_checker.specs.MeaningView.{meaning_of};
+ghost use Rattle.gr_checker.specs.ScopeView.{noted_in};
 ghost use Rattle.gr_accept.specs.Walks.{expr_sites, exprs_sites, locals_sites, call_sites};
 
 use crate::earliest::Earliest;
 use crate::meanings::Meanings;
-use crate::name_set::NameSet;
+use crate::scope::Scope;
 use gr_accept::{Declared, Operation, operation_of, reducer_of};
-use gr_syntax::Kind;
-use gr_syntax::{CallText, Expr, Name};
+use gr_syntax::{CallText, Expr, Kind, Name};
 
 /// Notes a local that is read or assigned and isn't visible.
 #[tactic(auto, unfolding(gr_accept::specs::Conditions::faults_at), using(crate::proofs::Leasts::leasts))]
-pub fn check_local(meanings: &Meanings, found: &mut Earliest, visible: &NameSet, name: &Name)
-    ensures { found.new ≡ seen (named meanings.now) found.old (mentions name.now visible.now ∷ []) }
+fn check_local(scope: &Scope, found: &mut Earliest, name: &Name)
+    ensures { found.new ≡ noted_in scope.now found.old (λ visible. mentions name.now visible ∷ []) }
 {
-    let _ = meanings;
-    let is_visible = visible.has(&name.text);
+    let is_visible = scope.visible.has(&name.text);
     found.note_if(!is_visible, Kind::Unknown, name.at);
 }
 
 /// Notes the faults of an expression where these locals are visible.
 #[tactic(auto, using(crate::proofs::Trees::trees))]
-pub fn check_expr(meanings: &Meanings, found: &mut Earliest, visible: &NameSet, expr: &Expr)
-    ensures { found.new ≡ seen (named meanings.now) found.old (expr_sites visible.now expr.now) }
+pub fn check_expr(scope: &Scope, found: &mut Earliest, expr: &Expr)
+    ensures { found.new ≡ noted_in scope.now found.old (λ visible. expr_sites visible expr.now) }
 {
     match expr {
         Expr::Lit { .. } => (),
-        Expr::Local { name } => check_local(meanings, found, visible, name),
-        Expr::Not { inner } => check_expr(meanings, found, visible, inner.get()),
+        Expr::Local { name } => check_local(scope, found, name),
+        Expr::Not { inner } => check_expr(scope, found, inner.get()),
         Expr::Two { left, right, .. } => {
-            check_expr(meanings, found, visible, left.get());
-            check_expr(meanings, found, visible, right.get());
+            check_expr(scope, found, left.get());
+            check_expr(scope, found, right.get());
         }
     }
 }
 
 /// Notes the faults of arguments, from left to right.
 #[tactic(auto, using(crate::proofs::Leasts::leasts))]
-pub fn check_exprs(meanings: &Meanings, found: &mut Earliest, visible: &NameSet, exprs: &[Expr])
-    ensures { found.new ≡ seen (named meanings.now) found.old (exprs_sites visible.now exprs.now) }
+pub fn check_exprs(scope: &Scope, found: &mut Earliest, exprs: &[Expr])
+    ensures { found.new ≡ noted_in scope.now found.old (λ visible. exprs_sites visible exprs.now) }
 {
     for expr in exprs {
-        check_expr(meanings, found, visible, expr);
+        check_expr(scope, found, expr);
     }
 }
 
 /// Notes the faults of targets that are locals of the task already.
 #[tactic(auto, using(crate::proofs::Leasts::leasts))]
-pub fn check_locals(meanings: &Meanings, found: &mut Earliest, visible: &NameSet, names: &[Name])
-    ensures { found.new ≡ seen (named meanings.now) found.old (locals_sites visible.now names.now) }
+pub fn check_locals(scope: &Scope, found: &mut Earliest, names: &[Name])
+    ensures { found.new ≡ noted_in scope.now found.old (λ visible. locals_sites visible names.now) }
 {
     for name in names {
-        check_local(meanings, found, visible, name);
+        check_local(scope, found, name);
     }
 }
 
 fn is_task(declared: Option<Declared>) -> bool
     ensures { result ≡ spec.is_task declared }
 {
-    match declared {
-        Some(Declared::Task { .. }) => true,
-        _ => false,
-    }
+    matches!(declared, Some(Declared::Task { .. }))
 }
 
 fn is_object(declared: Option<Declared>) -> bool
@@ -131,7 +127,7 @@ fn miscounts(declared: Option<Declared>, operation: Option<Operation>, count: us
 /// Notes a `show` of a name that is no object.
 #[tactic(auto, unfolding(gr_accept::specs::Conditions::faults_at), using(crate::proofs::Leasts::leasts))]
 pub fn check_shown(meanings: &Meanings, found: &mut Earliest, name: &Name)
-    ensures { found.new ≡ seen (named meanings.now) found.old (shows name.now ∷ []) }
+    ensures { found.new ≡ seen (meaning_of meanings.now) found.old (shows name.now ∷ []) }
 {
     let declared = meanings.get(&name.text);
     found.note_if(declared.is_none(), Kind::Unknown, name.at);
@@ -141,7 +137,7 @@ pub fn check_shown(meanings: &Meanings, found: &mut Earliest, name: &Name)
 /// Notes the start of what is no task, or of a task with another number of parameters than `count`.
 #[tactic(auto, unfolding(gr_accept::specs::Conditions::faults_at), using(crate::proofs::Leasts::leasts))]
 pub fn check_start(meanings: &Meanings, found: &mut Earliest, name: &Name, count: usize)
-    ensures { found.new ≡ seen (named meanings.now) found.old (starts name.now count ∷ []) }
+    ensures { found.new ≡ seen (meaning_of meanings.now) found.old (starts name.now count ∷ []) }
 {
     let declared = meanings.get(&name.text);
     found.note_if(declared.is_none(), Kind::Unknown, name.at);
@@ -155,7 +151,7 @@ fn check_reducer(found: &mut Earliest, reducer: &Option<Name>)
     match reducer {
         None => (),
         Some(name) => {
-            let reducer = reducer_of(&name.text);
+            let reducer = reducer_of(name.text.as_bytes());
             found.note_if(reducer.is_none(), Kind::Unknown, name.at);
         }
     }
@@ -171,16 +167,13 @@ fn check_first(found: &mut Earliest, is_wrong: bool, targets: &[Name])
 
 #[tactic(auto, unfolding(gr_accept::specs::Conditions::faults_at), using(crate::proofs::Leasts::leasts))]
 fn check_operation(meanings: &Meanings, found: &mut Earliest, targets: &[Name], call: &CallText)
-    ensures { found.new ≡ seen (named meanings.now) found.old (calls call.now targets.now ∷ []) }
+    ensures { let sites = calls call.now targets.now ∷ [] in
+        found.new ≡ seen (meaning_of meanings.now) found.old sites }
 {
     let declared = meanings.get(&call.object.text);
-    let operation = operation_of(&call.op.text);
+    let operation = operation_of(call.op.text.as_bytes());
     let is_missed = misses(declared, operation);
-    let is_misfit = misfits(
-        operation,
-        call.args.as_slice().len(),
-        call.reducer.is_some(),
-    );
+    let is_misfit = misfits(operation, call.args.len(), call.reducer.is_some());
     let is_miscounted = miscounts(declared, operation, targets.len());
     found.note_if(declared.is_none(), Kind::Unknown, call.object.at);
     found.note_if(operation.is_none(), Kind::Unknown, call.op.at);
@@ -193,15 +186,9 @@ fn check_operation(meanings: &Meanings, found: &mut Earliest, targets: &[Name], 
 
 /// Notes the faults of a call, with the targets of its result words, and of its arguments.
 #[tactic(auto, using(crate::proofs::Leasts::leasts))]
-pub fn check_call(
-    meanings: &Meanings,
-    found: &mut Earliest,
-    visible: &NameSet,
-    targets: &[Name],
-    call: &CallText,
-)
-    ensures { found.new ≡ seen (named meanings.now) found.old (call_sites targets.now call.now visible.now) }
+pub fn check_call(scope: &Scope, found: &mut Earliest, targets: &[Name], call: &CallText)
+    ensures { found.new ≡ noted_in scope.now found.old (call_sites targets.now call.now) }
 {
-    check_operation(meanings, found, targets, call);
-    check_exprs(meanings, found, visible, call.args.as_slice());
+    check_operation(scope.meanings, found, targets, call);
+    check_exprs(scope, found, call.args.as_slice());
 }

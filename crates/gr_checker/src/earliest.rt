@@ -1,10 +1,9 @@
 //! The earliest of the faults that were noted.
 ghost use Rattle.std.specs.Prelude.{◌≡◌, [], ◌∷◌};
-ghost use Rattle.gr_syntax.specs.Faults.{comes_before, when};
-ghost use Rattle.gr_checker.specs.Earliest.{least};
+ghost use Rattle.gr_syntax.specs.Faults.{comes_before, fault, when};
+ghost use Rattle.gr_checker.specs.EarliestWords.{least};
 
-use gr_syntax::{Fault, Kind};
-use gr_syntax::Place;
+use gr_syntax::{Fault, Kind, Place};
 use std::marker::Model;
 
 fn is_before(one: &Fault, other: &Fault) -> bool
@@ -51,7 +50,7 @@ impl Earliest {
 
     /// Notes a fault.
     pub fn note(&mut self, kind: Kind, at: Place)
-        ensures { self.new ≡ least self.old (record { kind = kind; at = at } ∷ []) }
+        ensures { self.new ≡ least self.old (fault kind at ∷ []) }
     {
         let fault = Fault { kind, at };
         let is_first = match &self.found {

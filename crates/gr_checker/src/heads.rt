@@ -1,16 +1,16 @@
 //! The pass over the heads of the items: what they declare.
-ghost use Rattle.std.specs.Prelude.{◌≡◌, ◌+◌, ◌≤◌, ◌^◌, min, OnOk, IfOk};
-ghost use Rattle.gr_checker.specs.Heads as spec;
+ghost use Rattle.std.specs.Prelude.{◌≡◌, OnOk};
+ghost use Rattle.gr_checker.specs.HeadsView as spec;
+ghost use Rattle.gr_checker.specs.HeadsView.{kept_by};
 
 use crate::earliest::Earliest;
 use crate::meanings::Meanings;
 use crate::name_set::NameSet;
 use gr_accept::Declared;
-use gr_syntax::Kind;
-use gr_syntax::{Item, Name, Number, Place};
+use gr_syntax::{Item, Kind, MAX_OBJECTS, MAX_TASKS, MAX_WORDS, Name, Number, Place};
 use std::alloc::AllocError;
 
-/// What the items so far declare. Counts stop at one more than what is allowed.
+/// What the items so far declare. Counts and sums stop at the greatest word.
 #[derive(Drop)]
 pub struct Heads<'a> {
     /// The earliest fault so far.
@@ -19,23 +19,12 @@ pub struct Heads<'a> {
     pub meanings: Meanings<'a>,
     /// The names that have an `input`.
     pub inputs: NameSet<'a>,
-    /// The number of objects, the heap not counted, at most 65.
-    pub objects: u64,
-    /// The number of tasks, at most 257.
-    pub tasks: u64,
-    /// The words of the arrays and the heap together, at most 2^24 + 1.
+    /// The number of objects, the heap not counted.
+    pub objects: usize,
+    /// The number of tasks.
+    pub tasks: usize,
+    /// The words of the arrays and the heap together.
     pub words: u64,
-}
-
-fn capped(limit: u64, sum: u64, more: u64) -> u64
-    requires { sum ≤ limit }
-    ensures { result ≡ min limit (sum + more) }
-{
-    if more <= limit - sum {
-        sum + more
-    } else {
-        limit
-    }
 }
 
 fn declare_name<'a>(
@@ -44,7 +33,8 @@ fn declare_name<'a>(
     at: Place,
     declared: Declared,
 ) -> Result<(), AllocError>
-    ensures { OnOk result (heads.new ≡ spec.declare_name name.now at declared heads.old) }
+    ensures { let kept = spec.declare_name name.now at declared (kept_by heads.old) in
+        OnOk result (kept_by heads.new ≡ kept) }
 {
     let is_there = heads.meanings.has(name);
     heads.found.note_if(is_there, Kind::Duplicate, at);
@@ -53,33 +43,32 @@ fn declare_name<'a>(
 }
 
 fn count_object(heads: &mut Heads, at: Place)
-    requires { heads.old.objects ≤ 65 }
-    ensures { heads.new ≡ spec.count_object at heads.old }
+    ensures { kept_by heads.new ≡ spec.count_object at (kept_by heads.old) }
 {
-    heads.found.note_if(heads.objects == 64, Kind::TooMany, at);
-    heads.objects = capped(65, heads.objects, 1);
+    let is_full = heads.objects == MAX_OBJECTS;
+    heads.found.note_if(is_full, Kind::TooMany, at);
+    heads.objects = heads.objects.saturating_add(1);
 }
 
 fn count_task(heads: &mut Heads, at: Place)
-    requires { heads.old.tasks ≤ 257 }
-    ensures { heads.new ≡ spec.count_task at heads.old }
+    ensures { kept_by heads.new ≡ spec.count_task at (kept_by heads.old) }
 {
-    heads.found.note_if(heads.tasks == 256, Kind::TooMany, at);
-    heads.tasks = capped(257, heads.tasks, 1);
+    let is_full = heads.tasks == MAX_TASKS;
+    heads.found.note_if(is_full, Kind::TooMany, at);
+    heads.tasks = heads.tasks.saturating_add(1);
 }
 
 fn enlarge(heads: &mut Heads, words: &Number)
-    requires { heads.old.words ≤ 2 ^ 24 + 1 }
-    ensures { heads.new ≡ spec.enlarge words.now heads.old }
+    ensures { kept_by heads.new ≡ spec.enlarge words.now (kept_by heads.old) }
 {
-    let before = heads.words;
-    heads.words = capped(16777217, before, words.value);
-    let is_large = before <= 16777216 && heads.words > 16777216;
+    let sum = heads.words.saturating_add(words.value);
+    let is_large = heads.words <= MAX_WORDS && sum > MAX_WORDS;
     heads.found.note_if(is_large, Kind::HeapTooLarge, words.at);
+    heads.words = sum;
 }
 
 fn take_input<'a>(heads: &mut Heads<'a>, name: &'a Name) -> Result<(), AllocError>
-    ensures { OnOk result (heads.new ≡ spec.take_input name.now heads.old) }
+    ensures { OnOk result (kept_by heads.new ≡ spec.take_input name.now (kept_by heads.old)) }
 {
     let is_there = heads.inputs.has(&name.text);
     heads.found.note_if(is_there, Kind::Duplicate, name.at);
@@ -92,8 +81,8 @@ fn declare_object<'a>(
     name: &'a Name,
     declared: Declared,
 ) -> Result<(), AllocError>
-    requires { heads.old.objects ≤ 65 }
-    ensures { OnOk result (heads.new ≡ spec.declare_object name.now declared heads.old) }
+    ensures { let kept = spec.declare_object name.now declared (kept_by heads.old) in
+        OnOk result (kept_by heads.new ≡ kept) }
 {
     count_object(heads, name.at);
     declare_name(heads, name.text.as_str(), name.at, declared)?;
@@ -102,48 +91,32 @@ fn declare_object<'a>(
 
 /// Notes the faults of what an item declares, and adds it to what is declared. An error is want of memory.
 pub fn declare<'a>(heads: &mut Heads<'a>, item: &'a Item) -> Result<(), AllocError>
-    requires { spec.IsCapped heads.old }
-    ensures { OnOk result (heads.new ≡ spec.item_declared item.now heads.old) }
+    ensures { OnOk result (kept_by heads.new ≡ spec.item_declared item.now (kept_by heads.old)) }
 {
     match item {
         Item::Array { name, words } => {
             enlarge(heads, words);
             declare_object(heads, name, Declared::Array { words: words.value })?;
-            Ok(())
         }
-        Item::Set { name } => {
-            declare_object(heads, name, Declared::Set)?;
-            Ok(())
-        }
-        Item::Map { name } => {
-            declare_object(heads, name, Declared::Map)?;
-            Ok(())
-        }
-        Item::Vector { name } => {
-            declare_object(heads, name, Declared::Vector)?;
-            Ok(())
-        }
+        Item::Set { name } => declare_object(heads, name, Declared::Set)?,
+        Item::Map { name } => declare_object(heads, name, Declared::Map)?,
+        Item::Vector { name } => declare_object(heads, name, Declared::Vector)?,
         Item::Heap { words } => {
             enlarge(heads, words);
             declare_name(heads, "heap", words.at, Declared::Heap)?;
-            Ok(())
         }
-        Item::Show { .. } => Ok(()),
-        Item::Input { name, .. } => {
-            take_input(heads, name)?;
-            Ok(())
-        }
+        Item::Show { .. } => (),
+        Item::Input { name, .. } => take_input(heads, name)?,
         Item::Task { name, params, .. } => {
+            let params = params.len();
             count_task(heads, name.at);
             declare_name(
                 heads,
                 name.text.as_str(),
                 name.at,
-                Declared::Task {
-                    params: params.as_slice().len(),
-                },
+                Declared::Task { params },
             )?;
-            Ok(())
         }
     }
+    Ok(())
 }

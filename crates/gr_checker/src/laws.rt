@@ -1,5 +1,5 @@
 //! Laws of refusals. The functions do nothing: what they tell is their contracts.
-ghost use Rattle.std.specs.Prelude.{◌≡◌, ◌⊎◌, true, List, []};
+ghost use Rattle.std.specs.Prelude.{◌≡◌, ◌⊎◌, true};
 ghost use Rattle.gr_accept.specs.Accepted.{faults, IsAccepted};
 ghost use Rattle.gr_syntax.specs.Faults.{IsFirst};
 ghost use Rattle.gr_syntax.specs.Targets.{targets_fit};
@@ -10,7 +10,10 @@ ghost use Rattle.gr_syntax.specs.declared.syntax.Program.{Program};
 /// many targets as the grammar gives them. So a refusal tells exactly one kind and place, no program is both accepted
 /// and refused, and each is one of the two.
 pub fn refusals_are_exact()
-    ensures at_most_one { (p : Program) (f g : Fault) → IsFirst f (faults p) → IsFirst g (faults p) → f ≡ g }
-    ensures none_if_accepted { (p : Program) (f : Fault) → IsFirst f (faults p) → IsAccepted p → ⊥ }
-    ensures one_unless_accepted { (p : Program) → targets_fit p ≡ true → IsAccepted p ⊎ ((f : Fault) × IsFirst f (faults p)) }
+    ensures at_most_one { (program : Program) (one other : Fault)
+        → IsFirst one (faults program) → IsFirst other (faults program) → one ≡ other }
+    ensures none_if_accepted { (program : Program) (first : Fault)
+        → IsFirst first (faults program) → IsAccepted program → ⊥ }
+    ensures one_unless_accepted { (program : Program) → targets_fit program ≡ true
+        → IsAccepted program ⊎ ((first : Fault) × IsFirst first (faults program)) }
 {}

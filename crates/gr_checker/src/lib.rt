@@ -2,13 +2,17 @@
 #![tactic(auto)]
 
 mod calls;
-pub mod check;
+mod checking;
 mod earliest;
 mod heads;
-pub mod laws;
+mod laws;
 mod meanings;
 mod name_set;
+mod scope;
 #[cfg(test)]
 mod tests;
 mod uses;
 mod walk;
+
+pub use checking::{CheckError, check};
+pub use laws::refusals_are_exact;

@@ -1,56 +1,46 @@
 //! What the names of objects and tasks mean.
-ghost use Rattle.std.specs.Prelude.{◌≡◌, [], OnOk, is_some};
-ghost use Rattle.gr_checker.specs.Meanings.{named, with_meaning};
+ghost use Rattle.std.specs.Prelude.{◌≡◌, OnOk, is_some};
+ghost use Rattle.gr_checker.specs.MeaningView.{meaning_of, no_meaning, with_meaning};
 
 use gr_accept::Declared;
 use gr_syntax::Text;
-use indexmap::IndexMap;
 use std::alloc::{AllocError, Global};
-use std::marker::Model;
+use std::collections::HashMap;
 
 /// What each name of an object or a task means: what the first item of that name declares.
 #[derive(Drop)]
 pub struct Meanings<'a> {
-    table: IndexMap<&'a str, Declared>,
-}
-
-impl<'a> Model for Meanings<'a> {
-    ghost use Rattle.std.specs.Prelude.{List, ℕ, map};
-    ghost use Rattle.gr_accept.specs.declared.operation.Declared.{Declared};
-    ghost use Rattle.std.specs.Coded.{codes};
-
-    ghost Value = { List (List ℕ × Declared) };
-
-    ghost view = { λ t. map (λ e. (e.0.now, e.1)) t.table.entries };
+    table: HashMap<&'a str, Declared>,
 }
 
 impl<'a> Meanings<'a> {
     /// No name has a meaning.
     pub fn new(alloc: Global) -> Meanings<'a>
-        ensures { result ≡ [] }
+        ensures { meaning_of result ≡ no_meaning }
     {
         Meanings {
-            table: IndexMap::new(alloc),
+            table: HashMap::new(alloc),
         }
     }
 
     /// What the name means, if it means anything.
     pub fn get(&self, name: &Text) -> Option<Declared>
-        ensures { result ≡ named self.now name.now }
+        ensures { result ≡ meaning_of self.now name.now }
     {
         self.table.get(name.as_str()).copied()
     }
 
     /// Whether the name has a meaning.
     pub fn has(&self, name: &str) -> bool
-        ensures { result ≡ is_some (named self.now name.now) }
+        ensures { result ≡ is_some (meaning_of self.now name.now) }
     {
         self.table.contains_key(name)
     }
 
     /// Gives the name this meaning, unless it has one. An error is want of memory.
     pub fn add(&mut self, name: &'a str, declared: Declared) -> Result<(), AllocError>
-        ensures { OnOk result (self.new ≡ with_meaning self.old name.now declared) }
+        ensures { let meaning = with_meaning (meaning_of self.old) name.now declared in
+            OnOk result (meaning_of self.new ≡ meaning) }
     {
         if self.table.contains_key(name) {
             return Ok(());

@@ -1,20 +1,20 @@
 //! The pass over what the items use: `show`, `input` and the bodies of the tasks.
-ghost use Rattle.std.specs.Prelude.{◌≡◌, [], ◌∷◌, OnOk, IfOk};
+ghost use Rattle.std.specs.Prelude.{◌≡◌, [], ◌∷◌, ◌++◌, IfOk};
 ghost use Rattle.gr_accept.specs.Conditions as condition;
-ghost use Rattle.gr_checker.specs.Earliest.{seen, least};
 ghost use Rattle.gr_accept.specs.Sites.{begins, fills};
-ghost use Rattle.gr_checker.specs.Meanings.{named};
 ghost use Rattle.gr_accept.specs.Accepted.{use_sites};
 ghost use Rattle.gr_accept.specs.Walks.{body_sites};
+ghost use Rattle.gr_checker.specs.EarliestWords.{seen, least};
+ghost use Rattle.gr_checker.specs.MeaningView.{meaning_of};
 
 use crate::calls::check_shown;
 use crate::earliest::Earliest;
 use crate::meanings::Meanings;
 use crate::name_set::NameSet;
+use crate::scope::Scope;
 use crate::walk::{Walk, check_all, give_all};
 use gr_accept::Declared;
-use gr_syntax::Kind;
-use gr_syntax::{Item, Name, Number, Stmt};
+use gr_syntax::{Item, Kind, MAX_PARAMS, Name, Number, Stmt};
 use std::alloc::{AllocError, Global};
 
 #[tactic(auto, using(crate::proofs::Leasts::leasts))]
@@ -25,39 +25,39 @@ fn check_body<'a>(
     params: &'a [Name],
     body: &'a [Stmt],
 ) -> Result<Earliest, AllocError>
-    ensures { IfOk result (λ f. f ≡ seen (named meanings.now) found (body_sites params.now body.now)) }
+    ensures { let sites = body_sites params.now body.now in
+        IfOk result (λ earliest. earliest ≡ seen (meaning_of meanings.now) found sites) }
 {
-    let mut walk = Walk {
-        found,
+    let scope = Scope {
+        meanings,
         named: NameSet::new(alloc),
         visible: NameSet::new(alloc),
     };
-    give_all(meanings, &mut walk, params)?;
-    check_all(meanings, &mut walk, body)?;
+    let mut walk = Walk { found, scope };
+    give_all(&mut walk, params)?;
+    check_all(&mut walk, body)?;
     Ok(walk.found)
 }
 
-#[tactic(auto, unfolding(gr_accept::specs::Conditions::faults_at), using(crate::proofs::Leasts::leasts))]
-fn check_params(meanings: &Meanings, found: &mut Earliest, name: &Name, params: &[Name])
-    ensures { found.new ≡ seen (named meanings.now) found.old (begins name.now params.now ∷ []) }
+/// Notes a parameter of `main`, and a parameter that is one too many.
+#[tactic(auto, using(crate::proofs::Leasts::leasts))]
+fn check_params(found: &mut Earliest, name: &Name, params: &[Name])
+    ensures { let site = begins name.now params.now in
+        found.new ≡ least found.old (condition.main_has_params site ++ condition.too_many site) }
 {
-    let _ = meanings;
     let is_main = name.text.is_word("main");
     if let Some(first) = params.get(0) {
         found.note_if(is_main, Kind::MainHasParams, first.at);
     }
-    if let Some(ninth) = params.get(8) {
-        found.note(Kind::TooMany, ninth.at);
+    if let Some(past) = params.get(MAX_PARAMS) {
+        found.note(Kind::TooMany, past.at);
     }
 }
 
 fn is_array(declared: Option<Declared>) -> bool
     ensures { result ≡ condition.is_array declared }
 {
-    match declared {
-        Some(Declared::Array { .. }) => true,
-        _ => false,
-    }
+    matches!(declared, Some(Declared::Array { .. }))
 }
 
 fn check_length(found: &mut Earliest, declared: Option<Declared>, values: &[Number])
@@ -72,7 +72,8 @@ fn check_length(found: &mut Earliest, declared: Option<Declared>, values: &[Numb
 
 #[tactic(auto, unfolding(gr_accept::specs::Conditions::faults_at), using(crate::proofs::Leasts::leasts))]
 fn check_input(meanings: &Meanings, found: &mut Earliest, name: &Name, values: &[Number])
-    ensures { found.new ≡ seen (named meanings.now) found.old (fills name.now values.now ∷ []) }
+    ensures { let sites = fills name.now values.now ∷ [] in
+        found.new ≡ seen (meaning_of meanings.now) found.old sites }
 {
     let declared = meanings.get(&name.text);
     check_length(found, declared, values);
@@ -88,7 +89,8 @@ pub fn use_item<'a>(
     found: Earliest,
     item: &'a Item,
 ) -> Result<Earliest, AllocError>
-    ensures { IfOk result (λ f. f ≡ seen (named meanings.now) found (use_sites item.now)) }
+    ensures { let sites = use_sites item.now in
+        IfOk result (λ earliest. earliest ≡ seen (meaning_of meanings.now) found sites) }
 {
     let mut found = found;
     match item {
@@ -101,7 +103,7 @@ pub fn use_item<'a>(
             Ok(found)
         }
         Item::Task { name, params, body } => {
-            check_params(meanings, &mut found, name, params.as_slice());
+            check_params(&mut found, name, params.as_slice());
             let found = check_body(alloc, meanings, found, params.as_slice(), body.as_slice())?;
             Ok(found)
         }

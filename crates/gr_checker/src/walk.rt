@@ -1,159 +1,132 @@
 //! The walk over a task's text.
-ghost use Rattle.std.specs.Prelude.{◌≡◌, [], ◌∷◌, OnOk, length, take, ◌≤◌, not};
-ghost use Rattle.gr_checker.specs.Earliest.{seen};
-ghost use Rattle.gr_checker.specs.Meanings.{named};
+ghost use Rattle.std.specs.Prelude.{◌≡◌, [], OnOk};
 ghost use Rattle.gr_accept.specs.Walks as spec;
-ghost use Rattle.gr_checker.specs.Walked.{after};
+ghost use Rattle.gr_checker.specs.ScopeView.{noted_in};
+ghost use Rattle.gr_checker.specs.WalkView.{after};
 
 use crate::calls::{check_call, check_expr, check_exprs, check_locals, check_start};
 use crate::earliest::Earliest;
-use crate::meanings::Meanings;
-use crate::name_set::NameSet;
-use gr_syntax::Kind;
-use gr_syntax::{Expr, HowText, Name, Right, Stmt};
+use crate::scope::Scope;
+use gr_syntax::{Expr, HowText, Kind, MAX_LOCALS, Name, Right, Stmt};
 use std::alloc::AllocError;
 
 /// A walk through a task's text.
 #[derive(Drop)]
-pub struct Walk<'a> {
+pub struct Walk<'s, 'a> {
     /// The earliest fault so far.
     pub found: Earliest,
-    /// The names that the task has so far.
-    pub named: NameSet<'a>,
-    /// Those of them that are visible.
-    pub visible: NameSet<'a>,
+    /// What names stand for.
+    pub scope: Scope<'s, 'a>,
 }
 
 #[tactic(auto, unfolding(gr_accept::specs::Conditions::faults_at), using(crate::proofs::Leasts::leasts))]
-fn give<'a>(meanings: &Meanings<'a>, walk: &mut Walk<'a>, name: &'a Name) -> Result<(), AllocError>
-    ensures { OnOk result (walk.new ≡ after (named meanings.now) walk.old (spec.given name.now)) }
+fn give<'a>(walk: &mut Walk<'_, 'a>, name: &'a Name) -> Result<(), AllocError>
+    ensures { OnOk result (walk.new ≡ after walk.old (spec.given name.now)) }
 {
-    let _ = meanings;
-    let is_there = walk.named.has(&name.text);
-    let is_full = walk.named.len() == 64;
+    let is_there = walk.scope.named.has(&name.text);
+    let is_full = walk.scope.named.len() == MAX_LOCALS;
     walk.found.note_if(is_there, Kind::Duplicate, name.at);
     walk.found
         .note_if(!is_there && is_full, Kind::TooMany, name.at);
-    walk.named.add(&name.text)?;
-    walk.visible.add(&name.text)?;
+    walk.scope.named.add(&name.text)?;
+    walk.scope.visible.add(&name.text)?;
     Ok(())
 }
 
 /// Gives the task these names one after the other, and makes them visible. An error is want of memory.
 #[tactic(auto, using(crate::proofs::Leasts::leasts))]
-pub fn give_all<'a>(
-    meanings: &Meanings<'a>,
-    walk: &mut Walk<'a>,
-    names: &'a [Name],
-) -> Result<(), AllocError>
-    ensures { OnOk result (walk.new ≡ after (named meanings.now) walk.old (spec.givens names.now)) }
+pub fn give_all<'a>(walk: &mut Walk<'_, 'a>, names: &'a [Name]) -> Result<(), AllocError>
+    ensures { OnOk result (walk.new ≡ after walk.old (spec.givens names.now)) }
 {
     for name in names {
-        give(meanings, walk, name)?;
+        give(walk, name)?;
     }
     Ok(())
 }
 
 #[tactic(auto, using(crate::proofs::Leasts::leasts))]
 fn check_targets<'a>(
-    meanings: &Meanings<'a>,
-    walk: &mut Walk<'a>,
+    walk: &mut Walk<'_, 'a>,
     fresh: bool,
     names: &'a [Name],
 ) -> Result<(), AllocError>
-    ensures { OnOk result (walk.new ≡ after (named meanings.now) walk.old (spec.targets fresh names.now)) }
+    ensures { OnOk result (walk.new ≡ after walk.old (spec.targets fresh names.now)) }
 {
     if fresh {
-        give_all(meanings, walk, names)?;
+        give_all(walk, names)?;
     } else {
-        check_locals(meanings, &mut walk.found, &walk.visible, names);
+        check_locals(&walk.scope, &mut walk.found, names);
     }
     Ok(())
 }
 
-fn check_right(
-    meanings: &Meanings,
-    found: &mut Earliest,
-    visible: &NameSet,
-    targets: &[Name],
-    right: &Right,
-)
-    ensures { found.new ≡ seen (named meanings.now) found.old (spec.right_sites targets.now right.now visible.now) }
+fn check_right(scope: &Scope, found: &mut Earliest, targets: &[Name], right: &Right)
+    ensures { found.new ≡ noted_in scope.now found.old (spec.right_sites targets.now right.now) }
 {
     match right {
-        Right::Value { value } => check_expr(meanings, found, visible, value),
-        Right::Result { call } => check_call(meanings, found, visible, targets, call),
+        Right::Value { value } => check_expr(scope, found, value),
+        Right::Result { call } => check_call(scope, found, targets, call),
     }
 }
 
 fn check_set<'a>(
-    meanings: &Meanings<'a>,
-    walk: &mut Walk<'a>,
+    walk: &mut Walk<'_, 'a>,
     fresh: bool,
     names: &'a [Name],
     right: &Right,
 ) -> Result<(), AllocError>
-    ensures { OnOk result (walk.new ≡ after (named meanings.now) walk.old (spec.both (spec.only (spec.right_sites names.now right.now)) (spec.targets fresh names.now))) }
+    ensures { let right_then = spec.both (spec.only (spec.right_sites names.now right.now)) in
+        OnOk result (walk.new ≡ after walk.old (right_then (spec.targets fresh names.now))) }
 {
-    check_right(meanings, &mut walk.found, &walk.visible, names, right);
-    check_targets(meanings, walk, fresh, names)?;
+    check_right(&walk.scope, &mut walk.found, names, right);
+    check_targets(walk, fresh, names)?;
     Ok(())
 }
 
-fn check_how(meanings: &Meanings, found: &mut Earliest, visible: &NameSet, how: &HowText)
-    ensures { found.new ≡ seen (named meanings.now) found.old (spec.how_sites how.now visible.now) }
+fn check_how(scope: &Scope, found: &mut Earliest, how: &HowText)
+    ensures { found.new ≡ noted_in scope.now found.old (spec.how_sites how.now) }
 {
     match how {
-        HowText::At { core } => check_expr(meanings, found, visible, core),
+        HowText::At { core } => check_expr(scope, found, core),
         _ => (),
     }
 }
 
 #[tactic(auto, using(crate::proofs::Leasts::leasts))]
-fn check_spawn(
-    meanings: &Meanings,
-    found: &mut Earliest,
-    visible: &NameSet,
-    how: &HowText,
-    target: &Name,
-    args: &[Expr],
-)
-    ensures { found.new ≡ seen (named meanings.now) found.old (spec.spawn_sites how.now target.now args.now visible.now) }
+fn check_spawn(scope: &Scope, found: &mut Earliest, how: &HowText, target: &Name, args: &[Expr])
+    ensures { let part = spec.spawn_sites how.now target.now args.now in
+        found.new ≡ noted_in scope.now found.old part }
 {
-    check_how(meanings, found, visible, how);
-    check_start(meanings, found, target, args.len());
-    check_exprs(meanings, found, visible, args);
+    check_how(scope, found, how);
+    check_start(scope.meanings, found, target, args.len());
+    check_exprs(scope, found, args);
 }
 
 #[tactic(auto, using(crate::proofs::Leasts::leasts))]
 fn check_forall(
-    meanings: &Meanings,
+    scope: &Scope,
     found: &mut Earliest,
-    visible: &NameSet,
     lo: &Expr,
     hi: &Expr,
     grain: &Expr,
     target: &Name,
     args: &[Expr],
 )
-    ensures { found.new ≡ seen (named meanings.now) found.old (spec.forall_sites lo.now hi.now grain.now target.now args.now visible.now) }
+    ensures { let part = spec.forall_sites lo.now hi.now grain.now target.now args.now in
+        found.new ≡ noted_in scope.now found.old part }
 {
-    check_expr(meanings, found, visible, lo);
-    check_expr(meanings, found, visible, hi);
-    check_expr(meanings, found, visible, grain);
-    check_start(meanings, found, target, args.len() + 1);
-    check_exprs(meanings, found, visible, args);
+    check_expr(scope, found, lo);
+    check_expr(scope, found, hi);
+    check_expr(scope, found, grain);
+    check_start(scope.meanings, found, target, args.len() + 1);
+    check_exprs(scope, found, args);
 }
 
 /// Notes the faults of a statement, and goes on after it. An error is want of memory.
 #[cycle(statements)]
 #[tactic(auto, using(crate::proofs::Statements::statements))]
-pub fn check_stmt<'a>(
-    meanings: &Meanings<'a>,
-    walk: &mut Walk<'a>,
-    stmt: &'a Stmt,
-) -> Result<(), AllocError>
-    ensures { OnOk result (walk.new ≡ after (named meanings.now) walk.old (spec.stmt stmt.now)) }
+pub fn check_stmt<'a>(walk: &mut Walk<'_, 'a>, stmt: &'a Stmt) -> Result<(), AllocError>
+    ensures { OnOk result (walk.new ≡ after walk.old (spec.stmt stmt.now)) }
 {
     match stmt {
         Stmt::Set1 {
@@ -161,41 +134,34 @@ pub fn check_stmt<'a>(
             targets,
             right,
         } => {
-            check_set(meanings, walk, *fresh, targets.as_slice(), right)?;
+            check_set(walk, *fresh, targets.as_slice(), right)?;
             Ok(())
         }
         Stmt::Do { call } => {
-            check_call(meanings, &mut walk.found, &walk.visible, &[], call);
+            check_call(&walk.scope, &mut walk.found, &[], call);
             Ok(())
         }
         Stmt::Print { value } => {
-            check_expr(meanings, &mut walk.found, &walk.visible, value);
+            check_expr(&walk.scope, &mut walk.found, value);
             Ok(())
         }
         Stmt::If { test, yes, no } => {
-            check_expr(meanings, &mut walk.found, &walk.visible, test);
-            check_block(meanings, walk, yes.as_slice())?;
-            check_block(meanings, walk, no.as_slice())?;
+            check_expr(&walk.scope, &mut walk.found, test);
+            check_block(walk, yes.as_slice())?;
+            check_block(walk, no.as_slice())?;
             Ok(())
         }
         Stmt::While { test, body } => {
-            check_expr(meanings, &mut walk.found, &walk.visible, test);
-            check_block(meanings, walk, body.as_slice())?;
+            check_expr(&walk.scope, &mut walk.found, test);
+            check_block(walk, body.as_slice())?;
             Ok(())
         }
         Stmt::Finish { body } => {
-            check_block(meanings, walk, body.as_slice())?;
+            check_block(walk, body.as_slice())?;
             Ok(())
         }
         Stmt::Spawn { how, target, args } => {
-            check_spawn(
-                meanings,
-                &mut walk.found,
-                &walk.visible,
-                how,
-                target,
-                args.as_slice(),
-            );
+            check_spawn(&walk.scope, &mut walk.found, how, target, args.as_slice());
             Ok(())
         }
         Stmt::Forall {
@@ -206,9 +172,8 @@ pub fn check_stmt<'a>(
             args,
         } => {
             check_forall(
-                meanings,
+                &walk.scope,
                 &mut walk.found,
-                &walk.visible,
                 lo,
                 hi,
                 grain,
@@ -224,30 +189,22 @@ pub fn check_stmt<'a>(
 /// is want of memory.
 #[cycle(statements)]
 #[tactic(auto, using(crate::proofs::Statements::statements))]
-pub fn check_all<'a>(
-    meanings: &Meanings<'a>,
-    walk: &mut Walk<'a>,
-    block: &'a [Stmt],
-) -> Result<(), AllocError>
-    ensures { OnOk result (walk.new ≡ after (named meanings.now) walk.old (spec.stmts block.now)) }
+pub fn check_all<'a>(walk: &mut Walk<'_, 'a>, block: &'a [Stmt]) -> Result<(), AllocError>
+    ensures { OnOk result (walk.new ≡ after walk.old (spec.stmts block.now)) }
 {
     for stmt in block {
-        check_stmt(meanings, walk, stmt)?;
+        check_stmt(walk, stmt)?;
     }
     Ok(())
 }
 
 #[cycle(statements)]
 #[tactic(auto, using(crate::proofs::Statements::statements))]
-fn check_block<'a>(
-    meanings: &Meanings<'a>,
-    walk: &mut Walk<'a>,
-    block: &'a [Stmt],
-) -> Result<(), AllocError>
-    ensures { OnOk result (walk.new ≡ after (named meanings.now) walk.old (spec.closed (spec.stmts block.now))) }
+fn check_block<'a>(walk: &mut Walk<'_, 'a>, block: &'a [Stmt]) -> Result<(), AllocError>
+    ensures { OnOk result (walk.new ≡ after walk.old (spec.closed (spec.stmts block.now))) }
 {
-    let before = walk.visible.len();
-    check_all(meanings, walk, block)?;
-    walk.visible.truncate(before);
+    let before = walk.scope.visible.len();
+    check_all(walk, block)?;
+    walk.scope.visible.truncate(before);
     Ok(())
 }

@@ -1,8 +1,7 @@
 use Rattle.std.proofs.Common.{◌≡◌, drop}
-use Rattle.gr_checker.specs.Meanings.{named}
-use Rattle.gr_checker.specs.Earliest.{seen}
 use Rattle.gr_accept.specs.Walks.{locals_sites}
+use Rattle.gr_checker.specs.ScopeView.{noted_in}
 use Rattle.gr_checker.proofs.calls.check_locals.Given as goal
 
 abbrev pub invariant-loop-name : goal.invariant-loop-name
-invariant-loop-name l = seen (named l.meanings) l.found (locals_sites l.visible (drop l.name-index l.names)) ≡ seen (named l.meanings) l.fn.found (locals_sites l.visible l.names)
+invariant-loop-name l = noted_in l.scope l.found (λ visible. locals_sites visible (drop l.name-index l.names)) ≡ noted_in l.scope l.fn.found (λ visible. locals_sites visible l.names)

@@ -1,15 +1,15 @@
 use Rattle.std.proofs.Common.{length, ◌∷◌, ◌++◌, ◌+◌}
-use Rattle.gr_checker.specs.Meanings.{named}
 use Rattle.gr_accept.specs.Sites.{starts}
-use Rattle.gr_checker.specs.Earliest.{seen}
 use Rattle.gr_accept.specs.Walks.{expr_sites, exprs_sites}
+use Rattle.gr_checker.specs.EarliestWords.{seen}
+use Rattle.gr_checker.specs.MeaningView.{meaning_of}
 use Rattle.gr_checker.proofs.Leasts.{seen-append}
 use Rattle.gr_checker.proofs.walk.check_forall.Goals as goal
 
 pub returns : goal.returns
 returns c =
-    let m = named c.args.meanings.now in
-    let v = c.args.visible.now in
+    let m = meaning_of c.args.scope.now.meanings.now in
+    let v = c.args.scope.now.visible in
     let found = c.args.found.now in
     let lo = expr_sites v c.args.lo.now in
     let hi = expr_sites v c.args.hi.now in

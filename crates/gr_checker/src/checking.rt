@@ -1,11 +1,11 @@
 //! The whole check of a program.
-ghost use Rattle.std.specs.Prelude.{◌≡◌, true, [], OnOk, IfOk, IfErr};
-ghost use Rattle.gr_checker.specs.Earliest.{least, seen};
-ghost use Rattle.gr_accept.specs.Accepted.{faults, uses_sites, IsAccepted};
-ghost use Rattle.gr_checker.specs.Heads as heads_spec;
-ghost use Rattle.gr_accept.specs.Conditions as condition;
-ghost use Rattle.gr_checker.specs.Meanings.{named};
+ghost use Rattle.std.specs.Prelude.{◌≡◌, true, None, IfOk, IfErr};
 ghost use Rattle.gr_syntax.specs.Targets.{targets_fit};
+ghost use Rattle.gr_accept.specs.Accepted.{faults, uses_sites, IsAccepted};
+ghost use Rattle.gr_accept.specs.Conditions as condition;
+ghost use Rattle.gr_checker.specs.EarliestWords.{least, seen};
+ghost use Rattle.gr_checker.specs.HeadsView.{all_declared, kept_by, none};
+ghost use Rattle.gr_checker.specs.MeaningView.{meaning_of};
 ghost use Rattle.gr_checker.specs.Refusals.{Refuses};
 
 use crate::earliest::Earliest;
@@ -14,8 +14,7 @@ use crate::meanings::Meanings;
 use crate::name_set::NameSet;
 use crate::uses::use_item;
 use gr_accept::Accepted;
-use gr_syntax::{Fault, Kind};
-use gr_syntax::{Item, Program};
+use gr_syntax::{Fault, Item, Kind, Program};
 use std::alloc::{AllocError, Global};
 use thiserror::Error;
 
@@ -32,7 +31,7 @@ pub enum CheckError {
 
 impl From<AllocError> for CheckError {
     ghost use Rattle.std.specs.Prelude.{◌≡◌};
-    ghost use Rattle.gr_checker.specs.declared.check.CheckError.TheVariants as error;
+    ghost use Rattle.gr_checker.specs.declared.checking.CheckError.TheVariants as error;
 
     ghost from_gives = { λ e r. r ≡ error.OutOfMemory };
 
@@ -43,7 +42,7 @@ impl From<AllocError> for CheckError {
 }
 
 fn declare_all<'a>(alloc: Global, items: &'a [Item]) -> Result<Heads<'a>, AllocError>
-    ensures { IfOk result (λ h. h ≡ heads_spec.all_declared items.now heads_spec.none) }
+    ensures { IfOk result (λ heads. kept_by heads ≡ all_declared items.now none) }
 {
     let mut heads = Heads {
         found: Earliest::new(),
@@ -66,7 +65,8 @@ fn use_all<'a>(
     found: Earliest,
     items: &'a [Item],
 ) -> Result<Earliest, AllocError>
-    ensures { IfOk result (λ f. f ≡ seen (named meanings.now) found (uses_sites items.now)) }
+    ensures { let sites = uses_sites items.now in
+        IfOk result (λ earliest. earliest ≡ seen (meaning_of meanings.now) found sites) }
 {
     let mut found = found;
     for item in items {
@@ -96,7 +96,7 @@ fn finds_main(items: &[Item]) -> bool
 }
 
 fn first_fault(alloc: Global, program: &Program) -> Result<Option<Fault>, AllocError>
-    ensures { IfOk result (λ f. f ≡ least None (faults program.now)) }
+    ensures { IfOk result (λ first. first ≡ least None (faults program.now)) }
 {
     let items = program.items.as_slice();
     let heads = declare_all(alloc, items)?;
@@ -113,8 +113,8 @@ fn first_fault(alloc: Global, program: &Program) -> Result<Option<Fault>, AllocE
 /// as many targets as the grammar gives them.
 pub fn check(alloc: Global, program: Program) -> Result<Accepted, CheckError>
     requires { targets_fit program ≡ true }
-    ensures ok { IfOk result (λ a. (a ≡ program) × IsAccepted program) }
-    ensures refused { IfErr result (λ e. Refuses e program) }
+    ensures ok { IfOk result (λ accepted. (accepted ≡ program) × IsAccepted program) }
+    ensures refused { IfErr result (λ error. Refuses error program) }
 {
     let first = first_fault(alloc, &program)?;
     match first {
