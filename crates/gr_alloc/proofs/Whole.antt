@@ -1,8 +1,9 @@
 -- One piece of all words is a cut.
-use Rattle.std.proofs.Common.{◌≡◌, ◌≢◌, ℕ, ◌+◌, ◌<◌, ◌≤◌, ◌^◌, List, length, slice_index, replicate, sym, ap, ◌∙◌, subst, arith, ⊎_elim, length-set}
+use Rattle.std.proofs.Common.{◌≡◌, ◌≢◌, ℕ, ◌+◌, ◌<◌, ◌≤◌, List, length, slice_index, replicate, sym, ap, ◌∙◌, subst, arith, ⊎_elim, length-set}
 use Rattle.std.specs.Prelude.{slice_set}
 use Rattle.std.proofs.lemmas.Bool.{cases_eq, cases_lt}
 use Rattle.std.proofs.lemmas.List.{get_or-replicate, get_or-set_same, get_or-set_other, get_or_past, length-replicate}
+use Rattle.gr_syntax.specs.declared.limits.TheConstants.{MAX_WORDS}
 use Rattle.gr_alloc.specs.CutView.{IsCut, AreEnds}
 
 -- The list has a number at one place and 0 at the others.
@@ -42,7 +43,7 @@ first_where : (xs : List ℕ) (n at : ℕ) → Only xs n 0 n → 0 < slice_index
 first_where xs n at only some =
     ⊎_elim (λ same. same) (λ other. absurd (omega (arith, only.others at other))) (cases_eq at 0)
 
-pub one_cut : (xs : List ℕ) (n : ℕ) → n ≤ 2 ^ 24 → xs ≡ slice_set (replicate n 0) 0 n → IsCut xs
+pub one_cut : (xs : List ℕ) (n : ℕ) → n ≤ MAX_WORDS → xs ≡ slice_set (replicate n 0) 0 n → IsCut xs
 one_cut xs n few is =
     let only = only_first xs n is in
     record {
