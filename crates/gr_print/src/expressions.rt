@@ -4,30 +4,14 @@ ghost use Rattle.gr_parse.specs.Tok as grammar;
 ghost use Rattle.gr_print.specs.Layout as spec;
 ghost use Rattle.gr_print.specs.Pieces.{bytes_of};
 
+use gr_parse::{LOOSEST, level_of};
 use gr_syntax::{BinOp, Expr};
-use gr_text::token::Sign;
+use gr_text::Sign;
 use std::alloc::AllocError;
 use std::fmt::Write;
 
 /// Above the level of every sign.
 const WHOLE: u8 = 6;
-
-/// The level of the comparisons, which don't group.
-const COMPARISON: u8 = 5;
-
-/// How loosely a sign binds, 0 the tightest.
-fn level_of(op: BinOp) -> u8
-    ensures { result ≡ grammar.level_of op }
-{
-    match op {
-        BinOp::Eq | BinOp::Ne | BinOp::Lt | BinOp::Le | BinOp::Gt | BinOp::Ge => COMPARISON,
-        BinOp::Or => 4,
-        BinOp::Xor => 3,
-        BinOp::And => 2,
-        BinOp::Add | BinOp::Sub => 1,
-        BinOp::Mul | BinOp::Div | BinOp::Rem => 0,
-    }
-}
 
 /// The sign that is written for it.
 fn sign_of(op: BinOp) -> Sign
@@ -56,11 +40,7 @@ fn left_level(level: u8) -> u8
     requires { level ≤ 5 }
     ensures { result ≡ spec.left_level level }
 {
-    if level == COMPARISON {
-        COMPARISON
-    } else {
-        level + 1
-    }
+    if level == LOOSEST { LOOSEST } else { level + 1 }
 }
 
 /// Writes a bracket where it is needed.
