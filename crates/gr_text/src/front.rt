@@ -12,7 +12,7 @@ use crate::token::{Sign, TokenKind};
 use gr_syntax::MAX_NAME;
 
 /// What stands at the front of a text that isn't empty.
-#[derive(Clone, Copy, Debug, PartialEq, Eq)]
+#[derive(Clone, Copy)]
 pub enum Front {
     /// This many bytes of white space, or of a comment.
     Blank { length: usize },
