@@ -84,7 +84,7 @@ shown = fold-Expr Shown expr_step
 
 -- Above the level of every sign.
 abbrev pub whole : ℕ
-whole = 6
+whole = suc LOOSEST
 
 -- A whole expression, which needs no brackets.
 abbrev pub expr : Expr → Layout

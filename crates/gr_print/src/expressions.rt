@@ -1,6 +1,7 @@
 //! Expressions as text.
 ghost use Rattle.std.specs.Prelude.{◌≡◌, ◌++◌, ◌≤◌, OnOk, string_bytes};
 ghost use Rattle.gr_parse.specs.Tok as grammar;
+ghost use Rattle.gr_parse.specs.declared.limits.TheConstants.{LOOSEST};
 ghost use Rattle.gr_print.specs.Layout as spec;
 ghost use Rattle.gr_print.specs.Pieces.{bytes_of};
 
@@ -11,7 +12,7 @@ use std::alloc::AllocError;
 use std::fmt::Write;
 
 /// Above the level of every sign.
-const WHOLE: u8 = 6;
+const WHOLE: u8 = LOOSEST + 1;
 
 /// The sign that is written for it.
 fn sign_of(op: BinOp) -> Sign
@@ -37,7 +38,7 @@ fn sign_of(op: BinOp) -> Sign
 
 /// Left of a sign of this level, only signs below the level that is given here need no brackets.
 fn left_level(level: u8) -> u8
-    requires { level ≤ 5 }
+    requires { level ≤ LOOSEST }
     ensures { result ≡ spec.left_level level }
 {
     if level == LOOSEST { LOOSEST } else { level + 1 }
