@@ -46,7 +46,8 @@ fn left_level(level: u8) -> u8
 
 /// Writes a bracket where it is needed.
 fn write_bracket(out: &mut String, needed: bool, bracket: Sign) -> Result<(), AllocError>
-    ensures { OnOk result (string_bytes out.new ≡ string_bytes out.old ++ bytes_of (spec.bracket needed bracket)) }
+    ensures { OnOk result (string_bytes out.new
+        ≡ string_bytes out.old ++ bytes_of (spec.bracket needed bracket)) }
 {
     if needed {
         out.push_str(bracket.text())
@@ -58,7 +59,8 @@ fn write_bracket(out: &mut String, needed: bool, bracket: Sign) -> Result<(), Al
 /// Writes an expression where only signs below this level may stand without brackets.
 #[tactic(auto, using(crate::proofs::Texts::expressions))]
 fn write_below(out: &mut String, level: u8, value: &Expr) -> Result<(), AllocError>
-    ensures { OnOk result (string_bytes out.new ≡ string_bytes out.old ++ bytes_of (spec.below level (spec.shown value.now))) }
+    ensures { OnOk result (string_bytes out.new
+        ≡ string_bytes out.old ++ bytes_of (spec.below level (spec.shown value.now))) }
 {
     match value {
         Expr::Lit { number } => {
@@ -84,7 +86,8 @@ fn write_below(out: &mut String, level: u8, value: &Expr) -> Result<(), AllocErr
 
 /// Writes an expression.
 pub(crate) fn write_expr(out: &mut String, value: &Expr) -> Result<(), AllocError>
-    ensures { OnOk result (string_bytes out.new ≡ string_bytes out.old ++ bytes_of (spec.expr value.now)) }
+    ensures { OnOk result (string_bytes out.new
+        ≡ string_bytes out.old ++ bytes_of (spec.expr value.now)) }
 {
     write_below(out, WHOLE, value)
 }
