@@ -167,12 +167,8 @@ fn check_first(found: &mut Earliest, is_wrong: bool, targets: &[Name])
 
 #[tactic(auto, unfolding(gr_accept::specs::Conditions::faults_at), using(crate::proofs::Leasts::leasts))]
 fn check_operation(meanings: &Meanings, found: &mut Earliest, targets: &[Name], call: &CallText)
-<<<<<<< HEAD
-    ensures { found.new ≡ seen (meaning_of meanings.now) found.old (calls call.now targets.now ∷ []) }
-=======
     ensures { let sites = calls call.now targets.now ∷ [] in
         found.new ≡ seen (meaning_of meanings.now) found.old sites }
->>>>>>> 89e6148def4cf928f04c8c15c929086cf11d360a
 {
     let declared = meanings.get(&call.object.text);
     let operation = operation_of(call.op.text.as_bytes());

@@ -65,12 +65,8 @@ fn use_all<'a>(
     found: Earliest,
     items: &'a [Item],
 ) -> Result<Earliest, AllocError>
-<<<<<<< HEAD
-    ensures { IfOk result (λ earliest. earliest ≡ seen (meaning_of meanings.now) found (uses_sites items.now)) }
-=======
     ensures { let sites = uses_sites items.now in
         IfOk result (λ earliest. earliest ≡ seen (meaning_of meanings.now) found sites) }
->>>>>>> 89e6148def4cf928f04c8c15c929086cf11d360a
 {
     let mut found = found;
     for item in items {

@@ -25,12 +25,8 @@ fn check_body<'a>(
     params: &'a [Name],
     body: &'a [Stmt],
 ) -> Result<Earliest, AllocError>
-<<<<<<< HEAD
-    ensures { IfOk result (λ earliest. earliest ≡ seen (meaning_of meanings.now) found (body_sites params.now body.now)) }
-=======
     ensures { let sites = body_sites params.now body.now in
         IfOk result (λ earliest. earliest ≡ seen (meaning_of meanings.now) found sites) }
->>>>>>> 89e6148def4cf928f04c8c15c929086cf11d360a
 {
     let scope = Scope {
         meanings,
@@ -76,12 +72,8 @@ fn check_length(found: &mut Earliest, declared: Option<Declared>, values: &[Numb
 
 #[tactic(auto, unfolding(gr_accept::specs::Conditions::faults_at), using(crate::proofs::Leasts::leasts))]
 fn check_input(meanings: &Meanings, found: &mut Earliest, name: &Name, values: &[Number])
-<<<<<<< HEAD
-    ensures { found.new ≡ seen (meaning_of meanings.now) found.old (fills name.now values.now ∷ []) }
-=======
     ensures { let sites = fills name.now values.now ∷ [] in
         found.new ≡ seen (meaning_of meanings.now) found.old sites }
->>>>>>> 89e6148def4cf928f04c8c15c929086cf11d360a
 {
     let declared = meanings.get(&name.text);
     check_length(found, declared, values);
@@ -97,12 +89,8 @@ pub fn use_item<'a>(
     found: Earliest,
     item: &'a Item,
 ) -> Result<Earliest, AllocError>
-<<<<<<< HEAD
-    ensures { IfOk result (λ earliest. earliest ≡ seen (meaning_of meanings.now) found (use_sites item.now)) }
-=======
     ensures { let sites = use_sites item.now in
         IfOk result (λ earliest. earliest ≡ seen (meaning_of meanings.now) found sites) }
->>>>>>> 89e6148def4cf928f04c8c15c929086cf11d360a
 {
     let mut found = found;
     match item {
