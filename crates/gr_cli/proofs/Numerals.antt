@@ -23,8 +23,10 @@ refused bounds text fault parses numeral fits = go (contains bounds value) refl
   where
     value : ℕ
     value = digits_value 10 text
+
     only_digits : Bool
     only_digits = list_all is_ascii_digit text
+
     go : (within : Bool) → contains bounds value ≡ within → None ≡ number_in bounds text
     go false has = rw (numeral, has) refl
     go true has =
