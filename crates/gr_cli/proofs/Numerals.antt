@@ -1,5 +1,5 @@
 -- What `parse` says of a numeral.
-use Rattle.std.proofs.Common.{◌≡◌, ◌<◌, ◌≤◌, ◌^◌, ◌&&◌, refl, ℕ, Bool, true, false, List}
+use Rattle.std.proofs.Common.{◌≡◌, ◌<◌, ◌≤◌, ◌^◌, ◌&&◌, refl, ℕ, Bool, true, false}
 use Rattle.std.proofs.Common.{length, None, Err, nat_le, arith, rules}
 use Rattle.std.proofs.lemmas.Bool.{leb-true}
 use Rattle.std.proofs.lemmas.Str.Parse.{IsNumeralModel, numerals_by_value, parse_digits}
@@ -23,8 +23,10 @@ refused bounds text fault parses numeral fits = go (contains bounds value) refl
   where
     value : ℕ
     value = digits_value 10 text
+
     only_digits : Bool
     only_digits = list_all is_ascii_digit text
+
     go : (within : Bool) → contains bounds value ≡ within → None ≡ number_in bounds text
     go false has = rw (numeral, has) refl
     go true has =
