@@ -6,6 +6,12 @@ ghost use Rattle.gr_cli.specs.Numbers as spec;
 
 use gr_syntax::{MAX_CORES, MAX_STEPS};
 
+/// The greatest clock of a core at which a run can be ended.
+const MAX_EVENTS: u64 = 1 << 40;
+
+/// The most digits of a number.
+pub const MAX_DIGITS: usize = 20;
+
 /// The least and the greatest number that an option takes, and the one that it has by default.
 #[derive(Clone, Copy)]
 pub struct Bounds {
@@ -60,9 +66,9 @@ pub const SLICE: Bounds = Bounds {
 
 /// The clock of a core at which a run is ended.
 pub const EVENTS: Bounds = Bounds {
-    default: 1 << 40,
+    default: MAX_EVENTS,
     least: 1,
-    most: 1 << 40,
+    most: MAX_EVENTS,
 };
 
 /// The indices of a loop of the program that `bench` makes.
@@ -85,16 +91,16 @@ fn has_only_digits(text: &str) -> bool
     text.bytes().all(|byte| byte.is_ascii_digit())
 }
 
-/// Whether the text is one to twenty decimal digits and nothing else.
+/// Whether the text is one to `MAX_DIGITS` decimal digits and nothing else.
 fn is_numeral(text: &str) -> bool
     ensures { result ≡ spec.is_numeral text.now }
 {
     let len = text.len();
-    1 <= len && len <= 20 && has_only_digits(text)
+    1 <= len && len <= MAX_DIGITS && has_only_digits(text)
 }
 
 /// The number that the text spells, if it is a numeral of a number within the bounds.
-pub fn number_in(text: &str, bounds: Bounds) -> Option<u64>
+pub(crate) fn number_in(text: &str, bounds: Bounds) -> Option<u64>
     ensures { result ≡ spec.number_in bounds text.now }
 {
     if !is_numeral(text) {

@@ -76,7 +76,7 @@ fn kind_of(matches: &ArgMatches) -> Option<BenchKind>
 }
 
 /// The options of the matches, `None` where a word is no value of its option.
-pub fn values(matches: &ArgMatches) -> Option<Options>
+pub(crate) fn values(matches: &ArgMatches) -> Option<Options>
     ensures { result ≡ spec.values_of (rows_of (found_of matches.now)) }
 {
     let command = command_of(matches)?;
