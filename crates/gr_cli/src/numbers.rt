@@ -4,6 +4,7 @@ ghost use Rattle.std.specs.Char.{is_ascii_digit};
 ghost use Rattle.std.specs.List.{list_all};
 ghost use Rattle.gr_cli.specs.Numbers as spec;
 
+use gr_gen::MAX_SIZE;
 use gr_syntax::{MAX_CORES, MAX_STEPS};
 
 /// The greatest clock of a core at which a run can be ended.
@@ -75,7 +76,7 @@ pub const EVENTS: Bounds = Bounds {
 pub const SIZE: Bounds = Bounds {
     default: 1000,
     least: 1,
-    most: 100000,
+    most: MAX_SIZE,
 };
 
 /// The seed of that program.
