@@ -4,6 +4,7 @@ use Rattle.std.specs.Fmt.{decimal}
 use Rattle.gr_gen.specs.declared.programs.BenchKind.{BenchKind}
 use Rattle.gr_gen.specs.declared.programs.BenchKind.TheVariants as kind
 
+-- Tasks that count how often each of sixteen words comes.
 abbrev pub words_text : ℕ → ℕ → List ℕ
 words_text size seed =
     codes "array hist[16];\n"
@@ -11,6 +12,7 @@ words_text size seed =
     ++ (codes "task main() { forall 0 .. " ++ (decimal size ++ (codes " grain 64 one(" ++ (decimal seed ++ (codes "); }\n"
     ++ codes "show hist;\n"))))))
 
+-- Tasks that insert one of a thousand keys, and count the keys.
 abbrev pub sets_text : ℕ → ℕ → List ℕ
 sets_text size seed =
     codes "set keys;\n"
@@ -19,6 +21,7 @@ sets_text size seed =
     ++ (codes "task main() { forall 0 .. " ++ (decimal size ++ (codes " grain 64 one(" ++ (decimal seed ++ (codes "); }\n"
     ++ codes "show a;\n")))))))
 
+-- Tasks that push words, and then as many that take one out.
 abbrev pub queue_text : ℕ → ℕ → List ℕ
 queue_text size seed =
     codes "vector v;\n"
