@@ -1,5 +1,6 @@
 pub mod Held
 pub mod Laws
+pub mod PrintRow
 -- For proofs and private functions.
 pub mod SizeWords
 pub mod StackView
