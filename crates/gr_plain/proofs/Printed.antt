@@ -9,7 +9,7 @@ use Rattle.gr_lang.specs.Effects.{nothing}
 use Rattle.gr_lang.specs.Next.{Running, acts, next, start, look, go_on}
 use Rattle.gr_lang.proofs.Nexts.{next-acts}
 use Rattle.gr_lang.proofs.TaskIds.{by_ids}
-use Rattle.gr_plain.specs.PrintRow.{SevenIsPrinted}
+use Rattle.gr_plain.specs.PrintRows.{SevenIsPrinted}
 
 abbrev begun : Running
 begun = start prints 0 []

@@ -1,7 +1,7 @@
 //! Laws of histories for what is built above, and a worked row, each the contract of a function that does
 //! nothing.
 ghost use Rattle.gr_plain.specs.Laws.{AfterOneMore};
-ghost use Rattle.gr_plain.specs.PrintRow.{SevenIsPrinted};
+ghost use Rattle.gr_plain.specs.PrintRows.{SevenIsPrinted};
 
 /// The state after a history and one more entry is one step on from the state after the history.
 pub fn after_one_more()

@@ -15,14 +15,11 @@ use crate::reading::{TextRead, read_text};
 use crate::straight::{Ran, run};
 use crate::texts::{first_trap, prints, refused_text, write_trap};
 use gr_accept::Accepted;
-use gr_cli::{Command, Options};
+use gr_cli::{Command, EVENTS, Options};
 use gr_hist::write;
 use gr_lang::History;
 use gr_syntax::{Fault, Kind, Place};
 use std::alloc::{AllocError, Global};
-
-/// The greatest limit on events: no straight run on one core meets it.
-const NO_LIMIT: u64 = 1 << 40;
 
 /// What is said where a command or an accepted program isn't run today.
 const NOT_BUILT: Fault = Fault {
@@ -147,7 +144,7 @@ fn is_run(options: Options, program: &Accepted) -> bool
     ensures { result ≡ is_run_today options program.now }
 {
     options.cores == 1
-        && options.events == NO_LIMIT
+        && options.events == EVENTS.default
         && !options.counts
         && is_built(program.program())
 }
