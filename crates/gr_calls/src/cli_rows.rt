@@ -1,6 +1,7 @@
 //! Rows of options. Each call of a row `options` is a command line, without the program's name.
 use crate::call::lines_of;
-use gr_cli::{BenchKind, Command, Options, OptionsError};
+use gr_cli::{Command, Options, OptionsError};
+use gr_gen::BenchKind;
 use serde_json::Value;
 use std::alloc::{AllocError, Global};
 

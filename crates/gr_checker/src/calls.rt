@@ -61,10 +61,7 @@ pub fn check_locals(scope: &Scope, found: &mut Earliest, names: &[Name])
 fn is_task(declared: Option<Declared>) -> bool
     ensures { result ≡ spec.is_task declared }
 {
-    match declared {
-        Some(Declared::Task { .. }) => true,
-        _ => false,
-    }
+    matches!(declared, Some(Declared::Task { .. }))
 }
 
 fn is_object(declared: Option<Declared>) -> bool
@@ -170,7 +167,8 @@ fn check_first(found: &mut Earliest, is_wrong: bool, targets: &[Name])
 
 #[tactic(auto, unfolding(gr_accept::specs::Conditions::faults_at), using(crate::proofs::Leasts::leasts))]
 fn check_operation(meanings: &Meanings, found: &mut Earliest, targets: &[Name], call: &CallText)
-    ensures { found.new ≡ seen (meaning_of meanings.now) found.old (calls call.now targets.now ∷ []) }
+    ensures { let sites = calls call.now targets.now ∷ [] in
+        found.new ≡ seen (meaning_of meanings.now) found.old sites }
 {
     let declared = meanings.get(&call.object.text);
     let operation = operation_of(call.op.text.as_bytes());

@@ -65,7 +65,8 @@ fn use_all<'a>(
     found: Earliest,
     items: &'a [Item],
 ) -> Result<Earliest, AllocError>
-    ensures { IfOk result (λ earliest. earliest ≡ seen (meaning_of meanings.now) found (uses_sites items.now)) }
+    ensures { let sites = uses_sites items.now in
+        IfOk result (λ earliest. earliest ≡ seen (meaning_of meanings.now) found sites) }
 {
     let mut found = found;
     for item in items {

@@ -33,7 +33,8 @@ fn declare_name<'a>(
     at: Place,
     declared: Declared,
 ) -> Result<(), AllocError>
-    ensures { OnOk result (kept_by heads.new ≡ spec.declare_name name.now at declared (kept_by heads.old)) }
+    ensures { let kept = spec.declare_name name.now at declared (kept_by heads.old) in
+        OnOk result (kept_by heads.new ≡ kept) }
 {
     let is_there = heads.meanings.has(name);
     heads.found.note_if(is_there, Kind::Duplicate, at);
@@ -80,7 +81,8 @@ fn declare_object<'a>(
     name: &'a Name,
     declared: Declared,
 ) -> Result<(), AllocError>
-    ensures { OnOk result (kept_by heads.new ≡ spec.declare_object name.now declared (kept_by heads.old)) }
+    ensures { let kept = spec.declare_object name.now declared (kept_by heads.old) in
+        OnOk result (kept_by heads.new ≡ kept) }
 {
     count_object(heads, name.at);
     declare_name(heads, name.text.as_str(), name.at, declared)?;

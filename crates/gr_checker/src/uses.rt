@@ -25,7 +25,8 @@ fn check_body<'a>(
     params: &'a [Name],
     body: &'a [Stmt],
 ) -> Result<Earliest, AllocError>
-    ensures { IfOk result (λ earliest. earliest ≡ seen (meaning_of meanings.now) found (body_sites params.now body.now)) }
+    ensures { let sites = body_sites params.now body.now in
+        IfOk result (λ earliest. earliest ≡ seen (meaning_of meanings.now) found sites) }
 {
     let scope = Scope {
         meanings,
@@ -56,10 +57,7 @@ fn check_params(found: &mut Earliest, name: &Name, params: &[Name])
 fn is_array(declared: Option<Declared>) -> bool
     ensures { result ≡ condition.is_array declared }
 {
-    match declared {
-        Some(Declared::Array { .. }) => true,
-        _ => false,
-    }
+    matches!(declared, Some(Declared::Array { .. }))
 }
 
 fn check_length(found: &mut Earliest, declared: Option<Declared>, values: &[Number])
@@ -74,7 +72,8 @@ fn check_length(found: &mut Earliest, declared: Option<Declared>, values: &[Numb
 
 #[tactic(auto, unfolding(gr_accept::specs::Conditions::faults_at), using(crate::proofs::Leasts::leasts))]
 fn check_input(meanings: &Meanings, found: &mut Earliest, name: &Name, values: &[Number])
-    ensures { found.new ≡ seen (meaning_of meanings.now) found.old (fills name.now values.now ∷ []) }
+    ensures { let sites = fills name.now values.now ∷ [] in
+        found.new ≡ seen (meaning_of meanings.now) found.old sites }
 {
     let declared = meanings.get(&name.text);
     check_length(found, declared, values);
@@ -90,7 +89,8 @@ pub fn use_item<'a>(
     found: Earliest,
     item: &'a Item,
 ) -> Result<Earliest, AllocError>
-    ensures { IfOk result (λ earliest. earliest ≡ seen (meaning_of meanings.now) found (use_sites item.now)) }
+    ensures { let sites = use_sites item.now in
+        IfOk result (λ earliest. earliest ≡ seen (meaning_of meanings.now) found sites) }
 {
     let mut found = found;
     match item {

@@ -75,8 +75,8 @@ fn check_set<'a>(
     names: &'a [Name],
     right: &Right,
 ) -> Result<(), AllocError>
-    ensures { let right_side = spec.only (spec.right_sites names.now right.now) in
-        OnOk result (walk.new ≡ after walk.old (spec.both right_side (spec.targets fresh names.now))) }
+    ensures { let right_then = spec.both (spec.only (spec.right_sites names.now right.now)) in
+        OnOk result (walk.new ≡ after walk.old (right_then (spec.targets fresh names.now))) }
 {
     check_right(&walk.scope, &mut walk.found, names, right);
     check_targets(walk, fresh, names)?;
@@ -94,7 +94,8 @@ fn check_how(scope: &Scope, found: &mut Earliest, how: &HowText)
 
 #[tactic(auto, using(crate::proofs::Leasts::leasts))]
 fn check_spawn(scope: &Scope, found: &mut Earliest, how: &HowText, target: &Name, args: &[Expr])
-    ensures { found.new ≡ noted_in scope.now found.old (spec.spawn_sites how.now target.now args.now) }
+    ensures { let part = spec.spawn_sites how.now target.now args.now in
+        found.new ≡ noted_in scope.now found.old part }
 {
     check_how(scope, found, how);
     check_start(scope.meanings, found, target, args.len());

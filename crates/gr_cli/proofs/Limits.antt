@@ -31,6 +31,7 @@ number_in-within bounds text number = go (is_numeral text) (contains bounds valu
   where
     value : ℕ
     value = digits_value 10 text
+
     go : (numeral within : Bool) → contains bounds value ≡ within
         → cond (numeral && within) (Some value) None ≡ Some number → IsWithin bounds number
     go false within has is = cc

@@ -1,5 +1,5 @@
 -- What `parse` says of a numeral.
-use Rattle.std.proofs.Common.{◌≡◌, ◌<◌, ◌≤◌, ◌^◌, ◌&&◌, refl, ℕ, Bool, true, false, List}
+use Rattle.std.proofs.Common.{◌≡◌, ◌<◌, ◌≤◌, ◌^◌, ◌&&◌, refl, ℕ, Bool, true, false}
 use Rattle.std.proofs.Common.{length, None, Err, nat_le, arith, rules}
 use Rattle.std.proofs.lemmas.Bool.{leb-true}
 use Rattle.std.proofs.lemmas.Str.Parse.{IsNumeralModel, numerals_by_value, parse_digits}
@@ -10,6 +10,7 @@ use Rattle.std.specs.Str.Parse.{ParsesUnsigned, digits_value}
 use Rattle.clap.specs.Words.{Text}
 use Rattle.gr_cli.specs.Numbers.{contains, is_numeral, number_in}
 use Rattle.gr_cli.specs.declared.numbers.Bounds.{Bounds}
+use Rattle.gr_cli.specs.declared.numbers.TheConstants.{MAX_DIGITS}
 
 -- Decimal digits by their class are those that `parse` takes.
 pub own : IsNumeralModel (λ text. list_all is_ascii_digit text ≡ true) (digits_value 10)
@@ -23,13 +24,15 @@ refused bounds text fault parses numeral fits = go (contains bounds value) refl
   where
     value : ℕ
     value = digits_value 10 text
+
     only_digits : Bool
     only_digits = list_all is_ascii_digit text
+
     go : (within : Bool) → contains bounds value ≡ within → None ≡ number_in bounds text
     go false has = rw (numeral, has) refl
     go true has =
-        let parts = both (nat_le 1 (length text)) (nat_le (length text) 20 && only_digits) numeral in
-        let digits = both (nat_le (length text) 20) only_digits parts.1 in
+        let parts = both (nat_le 1 (length text)) (nat_le (length text) MAX_DIGITS && only_digits) numeral in
+        let digits = both (nat_le (length text) MAX_DIGITS) only_digits parts.1 in
         let sides = both (nat_le bounds.least value) (nat_le value bounds.most) has in
         let some : 1 ≤ length text = leb-true 1 (length text) parts.0 in
         let top : value ≤ bounds.most = leb-true value bounds.most sides.1 in

@@ -5,14 +5,16 @@ use Rattle.std.specs.List.{list_all}
 use Rattle.std.specs.Str.Parse.{digits_value}
 use Rattle.clap.specs.Words.{Text}
 use Rattle.gr_cli.specs.declared.numbers.Bounds.{Bounds}
+use Rattle.gr_cli.specs.declared.numbers.TheConstants.{MAX_DIGITS}
 
 -- The number is within the bounds.
 abbrev pub IsWithin : Bounds → ℕ → Type 0
 IsWithin bounds number = (bounds.least ≤ number) × (number ≤ bounds.most)
 
--- Whether the text has one to twenty bytes, each of them a decimal digit.
+-- Whether the text is one or more decimal digits, and not too many of them.
 abbrev pub is_numeral : Text → Bool
-is_numeral text = nat_le 1 (length text) && (nat_le (length text) 20 && list_all is_ascii_digit text)
+is_numeral text =
+    nat_le 1 (length text) && (nat_le (length text) MAX_DIGITS && list_all is_ascii_digit text)
 
 -- Whether the number is within the bounds.
 abbrev pub contains : Bounds → ℕ → Bool

@@ -3,7 +3,7 @@ use Rattle.std.specs.Prelude.{◌≡◌, ◌==◌, ◌^◌, Bool, true, false, L
 use Rattle.std.specs.List.{slice_split}
 use Rattle.clap.specs.Words.{Text}
 use Rattle.gr_cli.specs.Options.{is_refused, options_of}
-use Rattle.gr_cli.specs.declared.settings.BenchKind.TheVariants.{Words}
+use Rattle.gr_gen.specs.declared.programs.BenchKind.TheVariants.{Words}
 use Rattle.gr_cli.specs.declared.settings.Command.TheVariants.{Run}
 use Rattle.gr_cli.specs.declared.settings.Options.{Options}
 

@@ -5,8 +5,8 @@ use Rattle.clap.specs.Words.{Row, Text, first_of}
 use Rattle.gr_cli.specs.Numbers.{number_in}
 use Rattle.gr_cli.specs.declared.numbers.TheConstants.{BLOCK, CORES, EVENTS, LIMIT, SEED, SIZE, SLICE, STEPS}
 use Rattle.gr_cli.specs.declared.numbers.Bounds.{Bounds}
-use Rattle.gr_cli.specs.declared.settings.BenchKind.{BenchKind}
-use Rattle.gr_cli.specs.declared.settings.BenchKind.TheVariants.{Words, Sets, Queue}
+use Rattle.gr_gen.specs.declared.programs.BenchKind.{BenchKind}
+use Rattle.gr_gen.specs.declared.programs.BenchKind.TheVariants.{Words, Sets, Queue}
 use Rattle.gr_cli.specs.declared.settings.Command.{Command}
 use Rattle.gr_cli.specs.declared.settings.Command.TheVariants.{Run, Check, Replay, Bench}
 use Rattle.gr_cli.specs.declared.settings.Options.{Options}

@@ -64,7 +64,7 @@ fn bare_command<'a>(alloc: Global) -> Command<'a>
 }
 
 /// The command with all its arguments.
-pub fn simple_command<'a>(alloc: Global) -> Result<Command<'a>, AllocError>
+pub(crate) fn simple_command<'a>(alloc: Global) -> Result<Command<'a>, AllocError>
     ensures { IfOk result (λ command. app_of command ≡ spec.simple_command) }
 {
     let arguments = arguments(alloc)?;

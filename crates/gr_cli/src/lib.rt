@@ -12,7 +12,7 @@ mod words;
 
 pub use error::OptionsError;
 pub use laws::options_are_within_limits;
-pub use numbers::{BLOCK, Bounds, CORES, EVENTS, LIMIT, SEED, SIZE, SLICE, STEPS};
+pub use numbers::{BLOCK, Bounds, CORES, EVENTS, LIMIT, MAX_DIGITS, SEED, SIZE, SLICE, STEPS};
 pub use rows::{accepted_rows, faulty_value_rows, refused_rows};
-pub use settings::{BenchKind, Command, Options};
+pub use settings::{Command, Options};
 pub use words::options;

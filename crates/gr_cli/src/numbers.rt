@@ -4,7 +4,14 @@ ghost use Rattle.std.specs.Char.{is_ascii_digit};
 ghost use Rattle.std.specs.List.{list_all};
 ghost use Rattle.gr_cli.specs.Numbers as spec;
 
+use gr_gen::MAX_SIZE;
 use gr_syntax::{MAX_CORES, MAX_STEPS};
+
+/// The greatest clock of a core at which a run can be ended.
+const MAX_EVENTS: u64 = 1 << 40;
+
+/// The most digits of a number.
+pub const MAX_DIGITS: usize = 20;
 
 /// The least and the greatest number that an option takes, and the one that it has by default.
 #[derive(Clone, Copy)]
@@ -60,16 +67,16 @@ pub const SLICE: Bounds = Bounds {
 
 /// The clock of a core at which a run is ended.
 pub const EVENTS: Bounds = Bounds {
-    default: 1 << 40,
+    default: MAX_EVENTS,
     least: 1,
-    most: 1 << 40,
+    most: MAX_EVENTS,
 };
 
 /// The indices of a loop of the program that `bench` makes.
 pub const SIZE: Bounds = Bounds {
     default: 1000,
     least: 1,
-    most: 100000,
+    most: MAX_SIZE,
 };
 
 /// The seed of that program.
@@ -85,16 +92,16 @@ fn has_only_digits(text: &str) -> bool
     text.bytes().all(|byte| byte.is_ascii_digit())
 }
 
-/// Whether the text is one to twenty decimal digits and nothing else.
+/// Whether the text is one to `MAX_DIGITS` decimal digits and nothing else.
 fn is_numeral(text: &str) -> bool
     ensures { result ≡ spec.is_numeral text.now }
 {
     let len = text.len();
-    1 <= len && len <= 20 && has_only_digits(text)
+    1 <= len && len <= MAX_DIGITS && has_only_digits(text)
 }
 
 /// The number that the text spells, if it is a numeral of a number within the bounds.
-pub fn number_in(text: &str, bounds: Bounds) -> Option<u64>
+pub(crate) fn number_in(text: &str, bounds: Bounds) -> Option<u64>
     ensures { result ≡ spec.number_in bounds text.now }
 {
     if !is_numeral(text) {

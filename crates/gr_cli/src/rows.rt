@@ -4,7 +4,7 @@
 ghost use Rattle.std.specs.Prelude.{◌≡◌, [], None, codes, true};
 ghost use Rattle.gr_cli.specs.Rows.{GivesOptions, HasFaultyValue, IsRefusedByClap, answer_to, run_options};
 ghost use Rattle.gr_cli.specs.declared.settings.Command.TheVariants as command;
-ghost use Rattle.gr_cli.specs.declared.settings.BenchKind.TheVariants as kind;
+ghost use Rattle.gr_gen.specs.declared.programs.BenchKind.TheVariants as kind;
 
 /// Lines that give options. It does nothing: its contract is what it tells.
 pub fn accepted_rows()

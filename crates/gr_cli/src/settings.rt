@@ -1,4 +1,6 @@
 //! What the words of a command line can say.
+use gr_gen::BenchKind;
+
 /// What the program is to do.
 #[derive(Clone, Copy, Debug, PartialEq, Eq)]
 pub enum Command {
@@ -10,17 +12,6 @@ pub enum Command {
     Replay,
     /// Makes a program, and runs it.
     Bench,
-}
-
-/// Which program `bench` makes.
-#[derive(Clone, Copy, Debug, PartialEq, Eq)]
-pub enum BenchKind {
-    /// One that counts in the words of an array.
-    Words,
-    /// One that inserts into a set.
-    Sets,
-    /// One that uses a vector as a queue.
-    Queue,
 }
 
 /// The command, and what each option is in the words or by default.

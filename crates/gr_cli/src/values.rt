@@ -5,8 +5,9 @@ ghost use Rattle.gr_cli.specs.ClapWords.{word_in};
 ghost use Rattle.gr_cli.specs.Values as spec;
 
 use crate::numbers::{BLOCK, Bounds, CORES, EVENTS, LIMIT, SEED, SIZE, SLICE, STEPS, number_in};
-use crate::settings::{BenchKind, Command, Options};
+use crate::settings::{Command, Options};
 use clap::ArgMatches;
+use gr_gen::BenchKind;
 
 /// The value of the first use of an argument, or its default.
 fn word_of<'a>(matches: &ArgMatches<'a>, name: &str) -> Option<&'a str>
@@ -76,7 +77,7 @@ fn kind_of(matches: &ArgMatches) -> Option<BenchKind>
 }
 
 /// The options of the matches, `None` where a word is no value of its option.
-pub fn values(matches: &ArgMatches) -> Option<Options>
+pub(crate) fn values(matches: &ArgMatches) -> Option<Options>
     ensures { result ≡ spec.values_of (rows_of (found_of matches.now)) }
 {
     let command = command_of(matches)?;

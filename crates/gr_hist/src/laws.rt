@@ -1,4 +1,4 @@
-//! Laws of history texts. The functions do nothing: what they tell is their contracts.
+//! The law, the contract of a function that does nothing.
 ghost use Rattle.gr_hist.specs.Grammar.{ReadsOnce};
 
 /// A text has at most one reading: one history text, or one first bad line.

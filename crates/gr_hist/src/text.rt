@@ -8,8 +8,8 @@ use thiserror::Error;
 /// An entry of a history as its line tells it.
 #[derive(Drop)]
 pub enum NamedEntry {
-    /// A task's call of an object's operation, with its numbers and its result words. The heap is the
-    /// object `heap`. A reducer is a number from 0 to 7.
+    /// A task's call of an object's operation, with its numbers and its result words. The heap is
+    /// the object `heap`. A reducer is a number from 0 to 7.
     Call {
         task: TaskId,
         object: Text,

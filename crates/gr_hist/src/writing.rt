@@ -111,8 +111,8 @@ fn put_header(out: &mut Vec<u8>, cores: u64, steps: u64) -> Result<(), AllocErro
 
 /// The text of a history of the program, with the number of cores, 1 to 16, and the limit of steps,
 /// 1 to 2^40. Where each object and task of the history has a name that is one of the language, it
-/// reads as that history with its names; so it does where the history is legal and the program gives
-/// such names. An error is want of memory.
+/// reads as that history with its names; so it does where the history is legal and the program
+/// gives such names. An error is want of memory.
 pub fn write(
     alloc: Global,
     program: &Accepted,

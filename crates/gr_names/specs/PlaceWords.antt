@@ -16,7 +16,8 @@ place_in places name = get_by (λ key. bytes_eq name key.now) places
 
 -- The name has this place now, unless it had one; other names keep theirs.
 abbrev pub GivesPlace : Places → Places → List ℕ → ℕ → Type 0
-GivesPlace old new name place = (other : List ℕ) → place_in new other ≡ option_or (place_in old other) (if bytes_eq other name then Some place else None)
+GivesPlace old new name place =
+    (other : List ℕ) → place_in new other ≡ option_or (place_in old other) (if bytes_eq other name then Some place else None)
 
 -- Each name has its place in this list, and the first of equal names counts.
 abbrev pub HasPlaces : List (List ℕ) → Places → Type 0

@@ -11,8 +11,8 @@ use std::alloc::{AllocError, Global};
 use std::collections::HashMap;
 use std::marker::Model;
 
-/// Names in their order, which contracts see as their list. A name is found by a look-up; of equal names
-/// the first counts.
+/// Names in their order, which contracts see as their list. A name is found by a look-up, and the first
+/// of equal names counts.
 #[derive(Drop)]
 pub struct NameIndex<'a> {
     names: Vec<&'a Text>,

@@ -1,4 +1,4 @@
-//! Tables of names: the place of a name in a list, and a program's objects and tasks by name and by number.
+//! Tables of names: the places of names in a list, and a program's objects and tasks by name and number.
 #![tactic(auto)]
 
 mod index;

@@ -9,8 +9,8 @@ use gr_syntax::{HEAP, Item, Program, Text};
 use std::alloc::{AllocError, Global};
 use std::marker::Model;
 
-/// A program's objects and tasks by name and by number, which contracts see as the program. A name is found
-/// by a look-up; of equal names the first counts.
+/// A program's objects and tasks by name and by number, which contracts see as the program. A name is
+/// found by a look-up, and the first of equal names counts.
 #[derive(Drop)]
 pub struct ProgramNames<'a> {
     program: &'a Program,

@@ -9,7 +9,7 @@ use Rattle.gr_syntax.specs.declared.syntax.Expr.TheVariants as e
 use Rattle.gr_syntax.specs.declared.syntax.CallText.{CallText}
 use Rattle.gr_text.specs.declared.token.Sign.TheVariants as s
 use Rattle.gr_parse.specs.declared.limits.TheConstants.{LOOSEST, MAX_SIGNS}
-use Rattle.gr_parse.specs.Tok.{Tok, Toks, is_sign}
+use Rattle.gr_parse.specs.Tok.{Tok, is_sign}
 use Rattle.gr_parse.specs.Grammar.{call_of}
 use Rattle.gr_parse.specs.TokWords.{is_missing, name_of, number_of, object_of, atom_of, operator}
 

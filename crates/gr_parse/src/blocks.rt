@@ -32,7 +32,8 @@ fn statement<'a>(alloc: Global, rest: Rest<'a>, depth: usize) -> Result<(Stmt, R
 /// A statement that begins with a word of the language.
 #[cycle(statement)]
 fn word_statement<'a>(alloc: Global, rest: Rest<'a>, depth: usize) -> Result<(Stmt, Rest<'a>), Stop>
-    ensures { Gives (λ x. x) result (spec.name_or spec.plenty depth (spec.block spec.plenty depth) None rest.entry) }
+    ensures { Gives (λ x. x) result
+        (spec.name_or spec.plenty depth (spec.block spec.plenty depth) None rest.entry) }
 {
     let ahead = rest.heap_ahead();
     match ahead {
@@ -48,7 +49,8 @@ fn word_statement<'a>(alloc: Global, rest: Rest<'a>, depth: usize) -> Result<(St
 #[cycle(statement)]
 #[tactic(auto, unfolding(crate::specs::ParsingWords::key_statement, crate::specs::ParsingWords::finish))]
 fn key_statement<'a>(alloc: Global, rest: Rest<'a>, depth: usize) -> Result<(Stmt, Rest<'a>), Stop>
-    ensures { Gives (λ x. x) result (spec.key_statement spec.plenty depth (spec.block spec.plenty depth) rest.entry) }
+    ensures { Gives (λ x. x) result
+        (spec.key_statement spec.plenty depth (spec.block spec.plenty depth) rest.entry) }
 {
     if rest.sees_word(Keyword::If) {
         return if_statement(alloc, rest.next(), depth);
@@ -67,7 +69,8 @@ fn key_statement<'a>(alloc: Global, rest: Rest<'a>, depth: usize) -> Result<(Stm
 #[cycle(statement)]
 #[tactic(auto, unfolding(crate::specs::ParsingWords::if_statement))]
 fn if_statement<'a>(alloc: Global, rest: Rest<'a>, depth: usize) -> Result<(Stmt, Rest<'a>), Stop>
-    ensures { Gives (λ x. x) result (spec.if_statement depth (spec.block spec.plenty depth) rest.entry) }
+    ensures { Gives (λ x. x) result
+        (spec.if_statement depth (spec.block spec.plenty depth) rest.entry) }
 {
     let (test, rest) = expr(alloc, rest, depth)?;
     let (yes, rest) = block(alloc, rest, depth)?;
@@ -95,7 +98,8 @@ fn while_statement<'a>(
     rest: Rest<'a>,
     depth: usize,
 ) -> Result<(Stmt, Rest<'a>), Stop>
-    ensures { Gives (λ x. x) result (spec.while_statement depth (spec.block spec.plenty depth) rest.entry) }
+    ensures { Gives (λ x. x) result
+        (spec.while_statement depth (spec.block spec.plenty depth) rest.entry) }
 {
     let (test, rest) = expr(alloc, rest, depth)?;
     let (body, rest) = block(alloc, rest, depth)?;
@@ -123,7 +127,8 @@ fn statements<'a>(
     mut rest: Rest<'a>,
     depth: usize,
 ) -> Result<(Block, Rest<'a>), Stop>
-    ensures { Gives (λ x. x) result (read.run (tok.is_sign signs.RightBrace) (spec.statement spec.plenty depth) spec.plenty [] rest.entry) }
+    ensures { Gives (λ x. x) result
+        (read.run (tok.is_sign signs.RightBrace) (spec.statement spec.plenty depth) spec.plenty [] rest.entry) }
 {
     let mut found = Items::new(alloc);
     'each: while !rest.halts(Sign::RightBrace) {

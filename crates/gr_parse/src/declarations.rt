@@ -32,7 +32,8 @@ fn array<'a>(alloc: Global, rest: Rest<'a>) -> Result<(Item, Rest<'a>), Stop>
 /// The name of an item that has nothing else.
 #[tactic(auto, unfolding(crate::specs::ParsingWords::named_item, crate::specs::OperandsWords::semicolon))]
 fn named<'a>(alloc: Global, rest: Rest<'a>) -> Result<(Name, Rest<'a>), Stop>
-    ensures { (make : NameValue → ItemValue) → Gives (λ x. (make x.0, x.1)) result (spec.named_item make rest.entry) }
+    ensures { (make : NameValue → ItemValue) → Gives (λ x. (make x.0, x.1)) result
+        (spec.named_item make rest.entry) }
 {
     let (name, rest) = name(alloc, rest)?;
     let rest = rest.expect(Sign::Semicolon)?;

@@ -77,7 +77,8 @@ fn group<'a>(
     depth: usize,
     signs: usize,
 ) -> Result<(Expr, usize, Rest<'a>), Stop>
-    ensures { Gives (λ x. ((x.0, x.1), x.2)) result (spec.group (spec.comparison (spec.unary depth) signs) rest.entry) }
+    ensures { Gives (λ x. ((x.0, x.1), x.2)) result
+        (spec.group (spec.comparison (spec.unary depth) signs) rest.entry) }
 {
     let (inner, signs, rest) = comparison(alloc, rest, depth, signs)?;
     let rest = rest.expect(Sign::RightParen)?;
@@ -93,7 +94,8 @@ fn comparison<'a>(
     depth: usize,
     signs: usize,
 ) -> Result<(Expr, usize, Rest<'a>), Stop>
-    ensures { Gives (λ x. ((x.0, x.1), x.2)) result (spec.comparison (spec.unary depth) signs rest.entry) }
+    ensures { Gives (λ x. ((x.0, x.1), x.2)) result
+        (spec.comparison (spec.unary depth) signs rest.entry) }
 {
     let (first, signs, rest) = levels(alloc, rest, depth, LOOSEST, signs)?;
     comparing(alloc, rest, depth, signs, first)
@@ -109,7 +111,8 @@ fn comparing<'a>(
     signs: usize,
     first: Expr,
 ) -> Result<(Expr, usize, Rest<'a>), Stop>
-    ensures { Gives (λ x. ((x.0, x.1), x.2)) result (spec.comparing (spec.unary depth) (first, signs) rest.entry) }
+    ensures { Gives (λ x. ((x.0, x.1), x.2)) result
+        (spec.comparing (spec.unary depth) (first, signs) rest.entry) }
 {
     let ahead = rest.operator_ahead(LOOSEST);
     match ahead {
@@ -134,7 +137,8 @@ fn levels<'a>(
     below: u8,
     signs: usize,
 ) -> Result<(Expr, usize, Rest<'a>), Stop>
-    ensures { Gives (λ x. ((x.0, x.1), x.2)) result (read.levels tok.operator spec.two (spec.unary depth) below signs rest.entry) }
+    ensures { Gives (λ x. ((x.0, x.1), x.2)) result
+        (read.levels tok.operator spec.two (spec.unary depth) below signs rest.entry) }
 {
     if below == 0 {
         return unary(alloc, rest, depth, signs);
@@ -153,7 +157,9 @@ fn chain<'a>(
     mut signs: usize,
     first: Expr,
 ) -> Result<(Expr, usize, Rest<'a>), Stop>
-    ensures { (n : ℕ) → signs < n → Gives (λ x. ((x.0, x.1), x.2)) result (read.chain (tok.operator below) spec.two (read.levels tok.operator spec.two (spec.unary depth) below) n (first, signs) rest.entry) }
+    ensures { (n : ℕ) → signs < n → Gives (λ x. ((x.0, x.1), x.2)) result
+        (read.chain (tok.operator below) spec.two
+        (read.levels tok.operator spec.two (spec.unary depth) below) n (first, signs) rest.entry) }
 {
     let mut left = first;
     while let Some(op) = rest.operator_ahead(below) {
@@ -187,7 +193,8 @@ fn onward<'a>(
     signs: usize,
     first: Expr,
 ) -> Result<(Expr, usize, Rest<'a>), Stop>
-    ensures { Gives (λ x. ((x.0, x.1), x.2)) result (read.onward tok.operator spec.two (spec.unary depth) below (first, signs) rest.entry) }
+    ensures { Gives (λ x. ((x.0, x.1), x.2)) result
+        (read.onward tok.operator spec.two (spec.unary depth) below (first, signs) rest.entry) }
 {
     if below == 0 {
         return Ok((first, signs, rest));

@@ -18,7 +18,7 @@ pub enum ParseError {
 }
 
 /// Why a part of the parser read nothing.
-#[derive(Debug, Drop)]
+#[derive(Drop)]
 pub enum Stop {
     /// There was no memory.
     OutOfMemory,

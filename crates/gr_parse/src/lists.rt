@@ -89,7 +89,8 @@ pub fn separated<'a, E: Element>(
     rest: Rest<'a>,
     depth: usize,
 ) -> Result<(Items<E>, Rest<'a>), Stop>
-    ensures { Gives (λ x. x) result (read.separated (tok.is_sign signs.Comma) (E.read_one depth) spec.plenty rest.entry) }
+    ensures { Gives (λ x. x) result
+        (read.separated (tok.is_sign signs.Comma) (E.read_one depth) spec.plenty rest.entry) }
 {
     let (first, mut rest) = E::parse(alloc, rest, depth)?;
     let mut found = Items::new(alloc);
@@ -109,7 +110,8 @@ pub fn enclosed<'a, E: Element>(
     rest: Rest<'a>,
     depth: usize,
 ) -> Result<(Items<E>, Rest<'a>), Stop>
-    ensures { Gives (λ x. x) result (read.enclosed (tok.is_sign signs.RightParen) (tok.is_sign signs.Comma) (E.read_one depth) spec.plenty rest.entry) }
+    ensures { Gives (λ x. x) result (read.enclosed (tok.is_sign signs.RightParen)
+        (tok.is_sign signs.Comma) (E.read_one depth) spec.plenty rest.entry) }
 {
     if rest.sees(Sign::RightParen) {
         return Ok((Items::new(alloc), rest.next()));

@@ -126,7 +126,8 @@ fn heap_object(alloc: Global, word: Keyword, at: Place) -> Result<Option<Name>, 
 /// The name that the token is.
 fn named(alloc: Global, text: &[u8], token: &Token) -> Result<Name, AllocError>
     requires { IsNamed text.now token.now }
-    ensures { IfOk result (λ name. name ≡ record { text = slice_range text.now token.now.from token.now.to; at = token.now.at }) }
+    ensures { IfOk result
+        (λ name. name ≡ record { text = slice_range text.now token.now.from token.now.to; at = token.now.at }) }
 {
     let word = letters(alloc, &text[token.from as usize..token.to as usize])?;
     Ok(Name {

@@ -1,7 +1,7 @@
 -- The scopes after an index has begun.
 use Rattle.std.proofs.Common.{◌≡◌, ℕ, ◌<◌, ◌≤◌, List, Option, sym, ap, ◌∙◌, length}
 use Rattle.std.proofs.lemmas.Option.{slice_get-get_or, slice_get_past}
-use Rattle.std.specs.Prelude.{slice_get, slice_set, slice_index_or}
+use Rattle.std.specs.Prelude.{slice_set, slice_index_or}
 use Rattle.std.specs.Option.{option_map_or}
 use Rattle.gr_lang.specs.States.{Scope}
 use Rattle.gr_plain.specs.ScopeView.{begin_scope, begun_at}

@@ -1,8 +1,7 @@
 -- The numbers of unended tasks in the machine: at the start, after a step, and as the test that no work is left.
-use Rattle.std.proofs.Common.{◌≡◌, ℕ, zero, suc, ◌+◌, ◌<◌, ◌^◌, ◌⊎◌, inl, inr, Bool, true, false, ◌&&◌, ◌||◌, List, [], ◌∷◌, Option, Some, None, refl, sym, ap, ◌∙◌, arith, rules, cond, subst, length}
-use Rattle.std.specs.Prelude.{◌==◌, if◌then◌else◌, nat_lt, slice_get, slice_index, codes}
+use Rattle.std.proofs.Common.{◌≡◌, ℕ, zero, suc, ◌<◌, ◌^◌, inl, inr, Bool, true, false, ◌&&◌, ◌||◌, List, [], ◌∷◌, Option, Some, None, refl, sym, ap, ◌∙◌, arith, rules, cond, subst}
+use Rattle.std.specs.Prelude.{◌==◌, if◌then◌else◌, nat_lt, slice_index, codes}
 use Rattle.std.specs.Option.{option_map, option_map_or, option_and_then}
-use Rattle.std.specs.List.{count_by}
 use Rattle.std.specs.FinMap as fin
 use Rattle.std.proofs.lemmas.Bool.Decides.{nat_tests}
 use Rattle.gr_lang.proofs.TaskIds.{by_ids}
@@ -13,7 +12,6 @@ use Rattle.gr_lang.specs.declared.action.TaskId.{TaskId}
 use Rattle.gr_lang.specs.Openings.{target_of}
 use Rattle.gr_lang.specs.States.{State, Task, main_id, opening_state, child, left, is_at_loop, is_going}
 use Rattle.gr_lang.specs.Steps.{step}
-use Rattle.gr_valid.specs.Valid.{IsValid}
 use Rattle.gr_valid.specs.Work.{OpensValid, StepsValid, WorkIsDirect, CanBePassed, IsInnermost, has_task, has_index, works_in}
 use Rattle.gr_plain.specs.CountWords.{CanChange, IsCounted, change_of, changed, is_work_in, unended_of}
 use Rattle.gr_plain.specs.Held.{Held, stepped, with_state}
@@ -21,7 +19,7 @@ use Rattle.gr_plain.specs.DueWords.{due_pass, is_arrive, is_blocked}
 use Rattle.gr_plain.specs.StackView.{top_of}
 use Rattle.gr_plain.specs.declared.counts.Change.{Change}
 use Rattle.gr_plain.proofs.Tallies.{any-count}
-use Rattle.gr_plain.proofs.Effects.{added}
+use Rattle.gr_plain.proofs.Recounts.{added}
 use Rattle.gr_plain.proofs.Numbers.{numbers}
 
 -- ---- the start

@@ -1,9 +1,10 @@
 pub mod Absent
 pub mod Begins
 pub mod Histories
+pub mod Printed
 pub mod Zeros
 pub mod Tallies
-pub mod Effects
+pub mod Recounts
 pub mod Changes
 pub mod Numbers
 pub mod Kept

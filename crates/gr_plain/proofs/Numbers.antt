@@ -1,12 +1,10 @@
 -- The numbers of unended tasks after a step: where a new task stands is a scope that is there, and the changed numbers are those of the new state.
-use Rattle.std.proofs.Common.{◌≡◌, ◌≢◌, ℕ, zero, suc, ◌+◌, ◌-◌, ◌<◌, ◌≤◌, ◌^◌, ◌⊎◌, inl, inr, Bool, true, false, ◌||◌, List, [], ◌∷◌, ◌++◌, Option, Some, None, refl, sym, ap, ◌∙◌, arith, cond, subst, length, length-append, length-set, get_or-set_same, get_or-set_other, get_or, eq-eqb}
-use Rattle.std.specs.Prelude.{◌==◌, IfSome, slice_get, slice_index, slice_set}
+use Rattle.std.proofs.Common.{◌≡◌, ◌≢◌, ℕ, zero, suc, ◌+◌, ◌-◌, ◌<◌, ◌≤◌, ◌^◌, ◌⊎◌, inl, inr, Bool, true, false, ◌||◌, List, [], ◌∷◌, ◌++◌, Option, Some, None, refl, sym, ap, ◌∙◌, arith, cond, subst, length, length-append, length-set, get_or-set_same, get_or-set_other, eq-eqb}
+use Rattle.std.specs.Prelude.{◌==◌, IfSome, slice_index, slice_set}
 use Rattle.std.specs.Option.{option_map, option_and_then}
 use Rattle.std.specs.List.{list_any}
 use Rattle.std.specs.FinMap as fin
-use Rattle.std.proofs.lemmas.Bool.{cases_eq}
 use Rattle.std.proofs.lemmas.Bool.Decides.{nat_tests}
-use Rattle.std.proofs.lemmas.List.{get_or_past}
 use Rattle.std.proofs.lemmas.Option.{slice_get_within}
 use Rattle.gr_lang.proofs.TaskIds.{ids_total}
 use Rattle.gr_syntax.specs.declared.syntax.Program.{Program}
@@ -15,15 +13,15 @@ use Rattle.gr_lang.specs.declared.action.Entry.TheVariants as e
 use Rattle.gr_lang.specs.declared.action.TaskId.{TaskId}
 use Rattle.gr_lang.specs.States.{State, Task, Scope, Mode, going, at_loop, ended, trapped, has_ended, innermost, innermost_of}
 use Rattle.gr_lang.specs.Steps.{step, if_going, spawn_step}
-use Rattle.gr_valid.specs.Valid.{IsValid, IsValidTask, IsOpen, IsOpened, AreOpened}
+use Rattle.gr_valid.specs.Valid.{IsValid, IsOpen, AreOpened}
 use Rattle.gr_valid.specs.Work.{StepsValid, works_in}
 use Rattle.gr_plain.specs.CountWords.{begins_in, ends_in, CanChange, IsCounted, change_of, changed, unended_of}
 use Rattle.gr_plain.specs.StackView.{top_of}
 use Rattle.gr_plain.specs.declared.counts.Change.{Change}
 use Rattle.gr_plain.specs.declared.counts.Change.TheVariants as c
 use Rattle.gr_plain.proofs.Tallies.{count-le-len}
-use Rattle.gr_plain.proofs.Effects.{Effect, on_task, on_going, goes}
-use Rattle.gr_plain.proofs.Changes.{effects}
+use Rattle.gr_plain.proofs.Recounts.{Recount, on_task, on_going, goes}
+use Rattle.gr_plain.proofs.Changes.{recounts}
 
 -- ---- scopes that are there
 
@@ -93,38 +91,38 @@ within (x ∷ xs) zero h = omega arith
 within (x ∷ xs) (suc r) h = omega (arith, within xs r h)
 
 pub applied : (change : Change) (counts : List ℕ) (S T : State) → length counts ≡ length S.scopes → ((s : ℕ) → slice_index counts s ≡ unended_of S.tasks s)
-    → Effect S change T → IsThere change S → fin.len T.tasks < 2 ^ 64 → Changes change counts T
-applied c.Stays counts S T many are eff there few = record {
+    → Recount S change T → IsThere change S → fin.len T.tasks < 2 ^ 64 → Changes change counts T
+applied c.Stays counts S T many are recount there few = record {
   can = tt;
-  scopes = omega (arith, eff.scopes, many);
-  unended = λ s. omega (arith, eff.counts s, are s);
+  scopes = omega (arith, recount.scopes, many);
+  unended = λ s. omega (arith, recount.counts s, are s);
 }
-applied c.Opens counts S T many are eff there few = record {
+applied c.Opens counts S T many are recount there few = record {
   can = tt;
-  scopes = omega (arith, eff.scopes, many, length-append counts (0 ∷ []));
-  unended = λ s. omega (arith, eff.counts s, are s, past_zero counts s);
+  scopes = omega (arith, recount.scopes, many, length-append counts (0 ∷ []));
+  unended = λ s. omega (arith, recount.counts s, are s, past_zero counts s);
 }
-applied (c.Begins r) counts S T many are eff there few =
+applied (c.Begins r) counts S T many are recount there few =
     let at : r < length counts = omega (arith, many, there) in
     let one : ◌≡◌ {A = ℕ} (cond (r == r) 1 0) 1 = ap {B = ℕ} (λ b. cond b 1 0) (eq-eqb r r refl) in
     let most : unended_of T.tasks r ≤ fin.len T.tasks = count-le-len ids_total (works_in r) T.tasks in
     record {
-      can = (at, omega (arith, eff.counts r, are r, most, few, one));
-      scopes = omega (arith, eff.scopes, many, length-set counts r (slice_index counts r + 1));
-      unended = λ s. set_there counts r s (slice_index counts r + 1) at (r == s) refl ∙ by_test s (r == s) refl (eff.counts s) (are s);
+      can = (at, omega (arith, recount.counts r, are r, most, few, one));
+      scopes = omega (arith, recount.scopes, many, length-set counts r (slice_index counts r + 1));
+      unended = λ s. set_there counts r s (slice_index counts r + 1) at (r == s) refl ∙ by_test s (r == s) refl (recount.counts s) (are s);
     }
   where
     by_test : (s : ℕ) (b : Bool) → (r == s) ≡ b → unended_of T.tasks s + 0 ≡ unended_of S.tasks s + cond b 1 0 → slice_index counts s ≡ unended_of S.tasks s → cond b (slice_index counts r + 1) (slice_index counts s) ≡ unended_of T.tasks s
     by_test s true e f g = let same : r ≡ s = grind (arith, nat_tests) in omega (arith, f, g, ap (slice_index counts) same)
     by_test s false e f g = omega (arith, f, g)
-applied (c.Ends r) counts S T many are eff there few =
+applied (c.Ends r) counts S T many are recount there few =
     let one : ◌≡◌ {A = ℕ} (cond (r == r) 1 0) 1 = ap {B = ℕ} (λ b. cond b 1 0) (eq-eqb r r refl) in
-    let some : 0 < slice_index counts r = omega (arith, eff.counts r, are r, one) in
+    let some : 0 < slice_index counts r = omega (arith, recount.counts r, are r, one) in
     let at : r < length counts = within counts r some in
     record {
       can = some;
-      scopes = omega (arith, eff.scopes, many, length-set counts r (slice_index counts r - 1));
-      unended = λ s. set_there counts r s (slice_index counts r - 1) at (r == s) refl ∙ by_test s (r == s) refl (eff.counts s) (are s);
+      scopes = omega (arith, recount.scopes, many, length-set counts r (slice_index counts r - 1));
+      unended = λ s. set_there counts r s (slice_index counts r - 1) at (r == s) refl ∙ by_test s (r == s) refl (recount.counts s) (are s);
     }
   where
     by_test : (s : ℕ) (b : Bool) → (r == s) ≡ b → unended_of T.tasks s + cond b 1 0 ≡ unended_of S.tasks s + 0 → slice_index counts s ≡ unended_of S.tasks s → cond b (slice_index counts r - 1) (slice_index counts s) ≡ unended_of T.tasks s
@@ -169,7 +167,7 @@ told (Some S) T P is h = let same : S ≡ T = cc in subst P same h
 pub numbers : StepsValid → (p : Program) (N L : ℕ) (S T : State) (x : Entry) (counts : List ℕ) → IsCounted p S counts → step p N L S x ≡ Some T → fin.len T.tasks < 2 ^ 64
     → CanChange (change_of S x) counts × IsCounted p T (changed (change_of S x) counts)
 numbers stays p N L S T x counts h is few =
-    let eff : Effect S (change_of S x) T = told (step p N L S x) T (Effect S (change_of S x)) is (effects p N L S x) in
+    let recount : Recount S (change_of S x) T = told (step p N L S x) T (Recount S (change_of S x)) is (recounts p N L S x) in
     let there : IsThere (change_of S x) S = told (step p N L S x) T (λ _. IsThere (change_of S x) S) is (theres p N L S x h.valid) in
-    let all : Changes (change_of S x) counts T = applied (change_of S x) counts S T h.scopes h.unended eff there few in
+    let all : Changes (change_of S x) counts T = applied (change_of S x) counts S T h.scopes h.unended recount there few in
     (all.can, record { valid = stays p N L S T x h.valid is; scopes = all.scopes; unended = all.unended })

@@ -1,5 +1,5 @@
 -- The words of an accepted program: its heap has at most 2^24, and its arrays lie in the words with which it opens.
-use Rattle.std.proofs.Common.{◌≡◌, ℕ, ◌+◌, ◌-◌, ◌<◌, ◌≤◌, ◌^◌, Bool, true, false, ◌&&◌, List, [], ◌∷◌, ◌++◌, refl, sym, ap, ◌∙◌, arith, subst, length, length-append}
+use Rattle.std.proofs.Common.{◌≡◌, ℕ, ◌+◌, ◌-◌, ◌≤◌, ◌^◌, Bool, true, false, ◌&&◌, List, [], ◌∷◌, ◌++◌, refl, sym, ap, ◌∙◌, arith, subst, length, length-append}
 use Rattle.std.specs.Prelude.{nat_le, nat_lt, replicate}
 use Rattle.std.specs.List.{flat_map, All}
 use Rattle.std.proofs.lemmas.List.Elements.{All-cons}
@@ -11,12 +11,12 @@ use Rattle.gr_plain.specs.SizeWords.{arrays_in}
 use Rattle.std.proofs.lemmas.Bool.Decides.{nat_tests}
 use Rattle.std.proofs.lemmas.Grind.{flat_map-append}
 use Rattle.std.proofs.lemmas.List.{length-replicate}
-use Rattle.gr_accept.specs.Accepted.{IsAccepted, heads_sites, head_sites, object_sites, uses_sites, faults, sites}
-use Rattle.gr_accept.specs.Conditions.{faults_at, heap_too_large, words_in}
+use Rattle.gr_accept.specs.Accepted.{IsAccepted, heads_sites, head_sites, uses_sites}
+use Rattle.gr_accept.specs.Conditions.{faults_at, words_in}
 use Rattle.gr_accept.specs.Declarations.{Meaning, first_named}
 use Rattle.gr_syntax.specs.Faults.{when}
 use Rattle.gr_lang.specs.Openings.{array_words, heap_words, input_of, objects_from, padded}
-use Rattle.gr_accept.specs.Sites.{Site, sizes, ends}
+use Rattle.gr_accept.specs.Sites.{sizes, ends}
 use Rattle.gr_syntax.specs.declared.refusal.Fault.{Fault}
 use Rattle.gr_syntax.specs.declared.refusal.Kind.{Kind}
 use Rattle.gr_syntax.specs.declared.syntax.Place.{Place}

@@ -7,11 +7,9 @@ mod laws;
 mod opening;
 mod plain;
 mod plain_state;
-#[cfg(test)]
-mod plain_tests;
 mod scopes;
 mod tasks;
 mod word_stack;
 
-pub use laws::after_one_more;
+pub use laws::{after_one_more, seven_is_printed};
 pub use plain::{Plain, StepError};

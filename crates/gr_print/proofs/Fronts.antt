@@ -1,6 +1,6 @@
 -- A token in front of what ends it is the longest token there.
 use Rattle.std.proofs.Common.{◌≡◌, ℕ, suc, ◌+◌, ◌<◌, ◌≤◌, ◌^◌, Bool, true, false, cond, [], ◌∷◌, ◌++◌, length, get_or, Option, Some, None, refl, sym, ap, ◌∙◌, arith}
-use Rattle.std.specs.Prelude.{◌==◌, ◌||◌}
+use Rattle.std.specs.Prelude.{◌==◌}
 use Rattle.std.specs.List.{list_all, prefix_len}
 use Rattle.std.specs.Fmt.{decimal}
 use Rattle.std.specs.Str.Parse.{AllDigits}
@@ -13,9 +13,10 @@ use Rattle.gr_text.specs.declared.token.Sign.TheVariants as s
 use Rattle.gr_text.specs.declared.token.TokenKind.TheVariants as kinds
 use Rattle.gr_text.specs.Spelling.{keyword_bytes, sign_bytes}
 use Rattle.gr_syntax.specs.Names.{is_letter, is_digit, is_word}
-use Rattle.gr_text.specs.Text.{Text, HasHead, IsLongest, IsToken}
-use Rattle.gr_text.specs.Front.{single_sign, double_sign, or_else, front_sign}
+use Rattle.gr_text.specs.Text.{Text, IsLongest, IsToken}
+use Rattle.gr_text.specs.FrontWords.{HasHead, single_sign, double_sign, or_else, front_sign}
 use Rattle.gr_text.proofs.Found.{number_found, keyword_found, name_found}
+use Rattle.gr_text.proofs.Longest.{letter_word}
 use Rattle.gr_text.proofs.Runs.{and_first, and_second, and_both, run_more}
 use Rattle.gr_text.proofs.Words.{keyword_head, keyword_letters}
 
@@ -34,9 +35,6 @@ run_is p (b ∷ bytes) rest h s =
     run_more p b (bytes ++ rest) (and_first (p b) (list_all p bytes) h) ∙ ap suc more
 
 -- ---- words
-
-letter_word : (b : ℕ) → is_letter b ≡ true → is_word b ≡ true
-letter_word b h = ap (λ (v : Bool). v || is_digit b) h
 
 pub name_longest : (text rest : Text) → IsToken kinds.Name text → Stops is_word rest → IsLongest kinds.Name (length text) (text ++ rest)
 name_longest [] rest t h = absurd t

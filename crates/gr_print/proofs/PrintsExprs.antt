@@ -9,8 +9,8 @@ use Rattle.gr_syntax.specs.declared.syntax.BinOp.TheVariants as op
 use Rattle.gr_syntax.specs.declared.syntax.Expr.{Expr}
 use Rattle.gr_syntax.specs.declared.syntax.Expr.TheVariants as e
 use Rattle.gr_text.specs.declared.token.Sign.TheVariants as s
-use Rattle.gr_parse.specs.Tok.{Tok, sign_of, level_of}
-use Rattle.gr_parse.specs.Operands.{Toks, loosest}
+use Rattle.gr_parse.specs.Tok.{Tok, sign_of, level_of, Toks}
+use Rattle.gr_parse.specs.declared.limits.TheConstants.{LOOSEST}
 use Rattle.gr_parse.specs.Grammar.{IsUnary, IsLevel, IsComparison, IsExpr}
 use Rattle.gr_print.specs.Unplaced.{unplaced_name, unplaced_number, unplaced_tok, unplaced_expr}
 use Rattle.gr_print.specs.Pieces.{Piece, Layout, name, number, sign}
@@ -43,7 +43,7 @@ looser : (d l : ℕ) (ts : Toks) (x : Expr) (n : ℕ) → suc l ≤ 6 → IsUnde
 looser d l ts x n h (IsUnder.comparison same p) = absurd (omega arith)
 looser d l ts x n h (IsUnder.level low p) = elim (cases_lt l 5) [
   | inl less ↦ IsUnder.level (omega arith) (IsLevel.tighter p)
-  | inr five ↦ (let same : l ≡ loosest = omega arith in IsUnder.comparison (omega arith) (IsComparison.one (subst (λ (m : ℕ). IsLevel d m ts x n) same p)))
+  | inr five ↦ (let same : l ≡ LOOSEST = omega arith in IsUnder.comparison (omega arith) (IsComparison.one (subst (λ (m : ℕ). IsLevel d m ts x n) same p)))
 ]
 
 much_looser : (d l : ℕ) (ts : Toks) (x : Expr) (n k : ℕ) → k + l ≤ 6 → IsUnder d l ts x n → IsUnder d (k + l) ts x n
@@ -215,10 +215,10 @@ two_case d o a b x y n m low joins p q =
     (subst (IsSubsequence (tokens_of one ++ Tok.sign (sign_of o) ∷ tokens_of other)) (sym (map-append unplaced_tok a (Tok.sign (sign_of o) ∷ b))) (part.joined p.within (IsSubsequence.kept q.within))))
 
 left_low : (l : ℕ) → l ≤ 4 → left_level l ≡ suc l
-left_low l h = let other : (l == loosest) ≡ false = grind arith in ap (λ (v : Bool). cond v loosest (suc l)) other
+left_low l h = let other : (l == LOOSEST) ≡ false = grind arith in ap (λ (v : Bool). cond v LOOSEST (suc l)) other
 
-left_same : (l : ℕ) → l ≡ loosest → left_level l ≡ loosest
-left_same l h = let same : (l == loosest) ≡ true = grind arith in ap (λ (v : Bool). cond v loosest (suc l)) same
+left_same : (l : ℕ) → l ≡ LOOSEST → left_level l ≡ LOOSEST
+left_same l h = let same : (l == LOOSEST) ≡ true = grind arith in ap (λ (v : Bool). cond v LOOSEST (suc l)) same
 
 joins_level : (d : ℕ) (o : BinOp) → level_of o ≤ 4 → Joins d o
 joins_level d o h a b x y n m p q =
@@ -226,10 +226,10 @@ joins_level d o h a b x y n m p q =
     let other : IsLevel d (level_of o) b y m = as_level (omega arith) q in
     IsUnder.level (omega arith) (IsLevel.two o refl one other)
 
-joins_comparison : (d : ℕ) (o : BinOp) → level_of o ≡ loosest → Joins d o
+joins_comparison : (d : ℕ) (o : BinOp) → level_of o ≡ LOOSEST → Joins d o
 joins_comparison d o h a b x y n m p q =
-    let one : IsLevel d loosest a x n = as_level (omega arith) (subst (λ (l : ℕ). IsUnder d l a x n) (left_same (level_of o) h) p) in
-    let other : IsLevel d loosest b y m = as_level (omega arith) (subst (λ (l : ℕ). IsUnder d l b y m) h q) in
+    let one : IsLevel d LOOSEST a x n = as_level (omega arith) (subst (λ (l : ℕ). IsUnder d l a x n) (left_same (level_of o) h) p) in
+    let other : IsLevel d LOOSEST b y m = as_level (omega arith) (subst (λ (l : ℕ). IsUnder d l b y m) h q) in
     IsUnder.comparison (omega arith) (IsComparison.compared o h one other)
 
 two_with : (d l : ℕ) (o : BinOp) (a b : Toks) (x y : Expr) (n m : ℕ) → level_of o ≡ l → suc l ≤ 5 → Prints d (suc l) a x n → Prints d l b y m → Prints d (suc l) (a ++ Tok.sign (sign_of o) ∷ b) (e.Two o x y) (suc (n + m))
@@ -240,7 +240,7 @@ two_with d l o a b x y n m same low p q =
     two_case d o a b x y n m (omega arith) (joins_level d o (omega arith)) (subst (λ (k : ℕ). Prints d k a x n) (sym left) p) q)
     low p q
 
-compared_with : (d : ℕ) (o : BinOp) (a b : Toks) (x y : Expr) (n m : ℕ) → level_of o ≡ loosest → Prints d loosest a x n → Prints d loosest b y m → Prints d 6 (a ++ Tok.sign (sign_of o) ∷ b) (e.Two o x y) (suc (n + m))
+compared_with : (d : ℕ) (o : BinOp) (a b : Toks) (x y : Expr) (n m : ℕ) → level_of o ≡ LOOSEST → Prints d LOOSEST a x n → Prints d LOOSEST b y m → Prints d 6 (a ++ Tok.sign (sign_of o) ∷ b) (e.Two o x y) (suc (n + m))
 compared_with d o a b x y n m same p q =
     let left = left_same (level_of o) same in
     let six : suc (level_of o) ≡ 6 = omega arith in
@@ -259,19 +259,19 @@ local_case d v = prints_as d 0 (Tok.name v ∷ []) (e.Local v) 0 (record { rank 
 
 mutual
   unary_prints : {d n : ℕ} {ts : Toks} {x : Expr} → IsUnary d ts x n → Prints d 0 ts x n
-  unary_prints (IsUnary.number {d} {v}) = number_case d v
-  unary_prints (IsUnary.local {d} {v}) = local_case d v
-  unary_prints (IsUnary.not {d} {n} {ts} {x} h) = not_case d ts x n (unary_prints h)
-  unary_prints (IsUnary.group {d} {n} {ts} {x} h) = group_case d ts x n (comparison_prints h)
+  unary_prints (IsUnary.number {depth = d} {value = v}) = number_case d v
+  unary_prints (IsUnary.local {depth = d} {name = v}) = local_case d v
+  unary_prints (IsUnary.not {depth = d} {count = n} {inside = ts} {inner = x} h) = not_case d ts x n (unary_prints h)
+  unary_prints (IsUnary.group {depth = d} {count = n} {inside = ts} {inner = x} h) = group_case d ts x n (comparison_prints h)
 
   level_prints : {d l n : ℕ} {ts : Toks} {x : Expr} → IsLevel d l ts x n → l ≤ 5 → Prints d l ts x n
   level_prints (IsLevel.unary h) low = unary_prints h
-  level_prints (IsLevel.tighter {d} {l} {n} {ts} {x} h) low = looser_case d l ts x n (level_prints h (omega arith))
-  level_prints (IsLevel.two {d} {l} {n} {m} {a} {b = c} {x} {y} o same p q) low = two_with d l o a c x y n m same low (level_prints p low) (level_prints q (omega arith))
+  level_prints (IsLevel.tighter {depth = d} {level = l} {count = n} {inside = ts} {inner = x} h) low = looser_case d l ts x n (level_prints h (omega arith))
+  level_prints (IsLevel.two {depth = d} {level = l} {count = n} {more = m} {front = a} {back = c} {left = x} {right = y} o same p q) low = two_with d l o a c x y n m same low (level_prints p low) (level_prints q (omega arith))
 
   comparison_prints : {d n : ℕ} {ts : Toks} {x : Expr} → IsComparison d ts x n → Prints d 6 ts x n
-  comparison_prints (IsComparison.one {d} {n} {ts} {x} h) = looser_case d 5 ts x n (level_prints h (omega arith))
-  comparison_prints (IsComparison.compared {d} {n} {m} {a} {b = c} {x} {y} o same p q) = compared_with d o a c x y n m same (level_prints p (omega arith)) (level_prints q (omega arith))
+  comparison_prints (IsComparison.one {depth = d} {count = n} {inside = ts} {inner = x} h) = looser_case d 5 ts x n (level_prints h (omega arith))
+  comparison_prints (IsComparison.compared {depth = d} {count = n} {more = m} {front = a} {back = c} {left = x} {right = y} o same p q) = compared_with d o a c x y n m same (level_prints p (omega arith)) (level_prints q (omega arith))
 
 -- ---- whole expressions
 
@@ -284,6 +284,6 @@ pub expr_written : (d : ℕ) (ts : Toks) (x : Expr) → IsExpr d ts x → Writte
 expr_written d ts x h =
     let p = comparison_prints h.spelled in
     record {
-      spelled = weaken (λ us y q. record { signs = h.signs; spelled = as_comparison refl q; few = h.few }) (spelled d 6 ts x h.signs (omega arith) p);
+      spelled = weaken (λ us y q. record { count = h.count; spelled = as_comparison refl q; few = h.few }) (spelled d 6 ts x h.count (omega arith) p);
       within = p.within;
     }

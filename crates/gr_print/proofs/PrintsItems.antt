@@ -10,8 +10,8 @@ use Rattle.gr_syntax.specs.declared.syntax.Item.TheVariants as items
 use Rattle.gr_text.specs.declared.token.Keyword.{Keyword}
 use Rattle.gr_text.specs.declared.token.Keyword.TheVariants as k
 use Rattle.gr_text.specs.declared.token.Sign.TheVariants as s
-use Rattle.gr_parse.specs.Tok.{Tok}
-use Rattle.gr_parse.specs.Operands.{Toks, max_nesting}
+use Rattle.gr_parse.specs.Tok.{Tok, Toks}
+use Rattle.gr_parse.specs.declared.limits.TheConstants.{MAX_NESTING}
 use Rattle.gr_parse.specs.Grammar.{IsName, IsNumber, IsItem, IsProgram}
 use Rattle.gr_print.specs.Unplaced.{nowhere, unplaced_name, unplaced_number, unplaced_tok, unplaced_stmt, unplaced_item}
 use Rattle.gr_print.specs.Pieces.{Piece, Layout, name, number, key, sign}
@@ -66,7 +66,7 @@ input_case n ts ws p =
       within = IsSubsequence.kept (IsSubsequence.kept (IsSubsequence.kept (within_then (numbers ws) (sign s.Semicolon ∷ []) ts (Tok.sign s.Semicolon ∷ []) w.within (part.whole (Tok.sign s.Semicolon ∷ [])))));
     }
 
-task_case : (n : Name) (ts us : Toks) (ps : List Name) (xs : List Stmt) → Enclosed (Tok.sign s.RightParen) (Tok.sign s.Comma) IsName ts ps → BlockWritten max_nesting us xs
+task_case : (n : Name) (ts us : Toks) (ps : List Name) (xs : List Stmt) → Enclosed (Tok.sign s.RightParen) (Tok.sign s.Comma) IsName ts ps → BlockWritten MAX_NESTING us xs
     → Written unplaced_item IsItem (task n ps xs) (Tok.key k.Task ∷ Tok.name n ∷ Tok.sign s.LeftParen ∷ (ts ++ us)) (items.Task n ps xs)
 task_case n ts us ps xs p b =
     let w = enclosed_written unplaced_name IsName (λ m. name m ∷ []) name_written p in
@@ -86,14 +86,14 @@ task_case n ts us ps xs p b =
     })
 
 item_written : {ts : Toks} {x : Item} → IsItem ts x → AreWritten ts → Written unplaced_item IsItem (item x) ts x
-item_written (IsItem.array {n} {w}) h = array_case n w
-item_written (IsItem.set {n}) h = named_case k.Set items.Set (λ m. IsItem.set) (λ m o same. ap (λ (z : Name). items.Set z) same) n
-item_written (IsItem.map {n}) h = named_case k.Map items.Map (λ m. IsItem.map) (λ m o same. ap (λ (z : Name). items.Map z) same) n
-item_written (IsItem.vector {n}) h = named_case k.Vector items.Vector (λ m. IsItem.vector) (λ m o same. ap (λ (z : Name). items.Vector z) same) n
-item_written (IsItem.heap {at} {w}) h = heap_case w (Tok.heap at ∷ Tok.number w ∷ Tok.sign s.Semicolon ∷ []) refl
-item_written (IsItem.show {n}) h = named_case k.Show items.Show (λ m. IsItem.show) (λ m o same. ap (λ (z : Name). items.Show z) same) n
-item_written (IsItem.input {n} {ts} {ws} p) h = input_case n ts ws p
-item_written (IsItem.task {n} {ts} {us} {ps} {xs} p q) h = task_case n ts us ps xs p (block_written q (behind_written ts us h.1.1.1))
+item_written (IsItem.array {name = n} {size = w}) h = array_case n w
+item_written (IsItem.set {name = n}) h = named_case k.Set items.Set (λ m. IsItem.set) (λ m o same. ap (λ (z : Name). items.Set z) same) n
+item_written (IsItem.map {name = n}) h = named_case k.Map items.Map (λ m. IsItem.map) (λ m o same. ap (λ (z : Name). items.Map z) same) n
+item_written (IsItem.vector {name = n}) h = named_case k.Vector items.Vector (λ m. IsItem.vector) (λ m o same. ap (λ (z : Name). items.Vector z) same) n
+item_written (IsItem.heap {at} {size = w}) h = heap_case w (Tok.heap at ∷ Tok.number w ∷ Tok.sign s.Semicolon ∷ []) refl
+item_written (IsItem.show {name = n}) h = named_case k.Show items.Show (λ m. IsItem.show) (λ m o same. ap (λ (z : Name). items.Show z) same) n
+item_written (IsItem.input {name = n} {inside = ts} {values = ws} p) h = input_case n ts ws p
+item_written (IsItem.task {name = n} {front = ts} {inside = us} {params = ps} {body = xs} p q) h = task_case n ts us ps xs p (block_written q (behind_written ts us h.1.1.1))
 
 -- ---- programs
 
@@ -115,4 +115,4 @@ more_case ts us x xs a b =
 -- The tokens of a program's layout spell it wherever their places are, and are among those of each spelling.
 pub program_written : {ts : Toks} {xs : List Item} → IsProgram ts xs → AreWritten ts → Written (map unplaced_item) IsProgram (program xs) ts xs
 program_written Repeated.none h = record { spelled = record { each = each_nil (record { tree = []; spelled = Repeated.none; same = refl }) }; within = IsSubsequence.none }
-program_written (Repeated.one_more {ts} {us} {x} {xs} p q) h = more_case ts us x xs (item_written p (front_written ts us h)) (program_written q (behind_written ts us h))
+program_written (Repeated.one_more {front = ts} {back = us} {first = x} {others = xs} p q) h = more_case ts us x xs (item_written p (front_written ts us h)) (program_written q (behind_written ts us h))

@@ -14,9 +14,8 @@ use Rattle.gr_text.specs.declared.token.Keyword.TheVariants as k
 use Rattle.gr_text.specs.declared.token.Sign.TheVariants as s
 use Rattle.gr_text.specs.declared.token.TokenKind.TheVariants as kinds
 use Rattle.gr_text.specs.Text.{IsToken}
-use Rattle.gr_parse.specs.Tok.{Tok}
-use Rattle.gr_parse.specs.Operands.{Toks, call_of}
-use Rattle.gr_parse.specs.Grammar.{IsExpr, IsName, IsNumber, IsArgs, IsObject, IsOperation, IsCall}
+use Rattle.gr_parse.specs.Tok.{Tok, Toks}
+use Rattle.gr_parse.specs.Grammar.{call_of, IsExpr, IsName, IsNumber, IsArgs, IsObject, IsOperation, IsCall}
 use Rattle.gr_print.specs.Unplaced.{nowhere, unplaced_name, unplaced_number, unplaced_tok, unplaced_expr, unplaced_call}
 use Rattle.gr_print.specs.Pieces.{Piece, Layout, name, number, sign, object_tok}
 use Rattle.gr_print.specs.Layout.{behind, listed, expr, args, call}
@@ -60,8 +59,8 @@ module _ {A : Type 0} (bare : A → A) (E : Toks → A → Type 0) (lay : A → 
       }
 
   pub separated_written : {ts : Toks} {xs : List A} → Separated (Tok.sign s.Comma) E ts xs → Written (map bare) (Separated (Tok.sign s.Comma) E) (listed (map lay xs)) ts xs
-  separated_written (Separated.last {ts} {x} h) = last_case ts x h
-  separated_written (Separated.before {ts} {us} {x} {xs} h k) = before_case ts us x xs h k (separated_written k)
+  separated_written (Separated.last {front = ts} {only = x} h) = last_case ts x h
+  separated_written (Separated.before {front = ts} {back = us} {first = x} {others = xs} h k) = before_case ts us x xs h k (separated_written k)
 
   some_case : (ts : Toks) (xs : List A) → Written (map bare) (Separated (Tok.sign s.Comma) E) (listed (map lay xs)) ts xs
       → Written (map bare) (Enclosed (Tok.sign s.RightParen) (Tok.sign s.Comma) E) (listed (map lay xs) ++ sign s.RightParen ∷ []) (ts ++ Tok.sign s.RightParen ∷ []) xs
@@ -81,16 +80,16 @@ module _ {A : Type 0} (bare : A → A) (E : Toks → A → Type 0) (lay : A → 
     spelled = record { each = each_sign s.RightParen (each_nil (record { tree = []; spelled = Enclosed.empty; same = refl })) };
     within = part.whole (Tok.sign s.RightParen ∷ []);
   }
-  enclosed_written (Enclosed.some {ts} {xs} h) = some_case ts xs (separated_written h)
+  enclosed_written (Enclosed.some {inside = ts} {found = xs} h) = some_case ts xs (separated_written h)
 
 pub name_written : (ts : Toks) (n : Name) → IsName ts n → Written unplaced_name IsName (name n ∷ []) ts n
-name_written _ _ (IsName.name {n}) = record {
+name_written _ _ (IsName.name {found = n}) = record {
   spelled = record { each = each_name n (λ m same. each_nil (record { tree = m; spelled = IsName.name; same = same })) };
   within = part.whole (Tok.name (unplaced_name n) ∷ []);
 }
 
 pub number_written : (ts : Toks) (n : Number) → IsNumber ts n → Written unplaced_number IsNumber (number n ∷ []) ts n
-number_written _ _ (IsNumber.number {n}) = record {
+number_written _ _ (IsNumber.number {found = n}) = record {
   spelled = record { each = each_number n (λ m same. each_nil (record { tree = m; spelled = IsNumber.number; same = same })) };
   within = part.whole (Tok.number (unplaced_number n) ∷ []);
 }
@@ -107,7 +106,7 @@ brackets_case d ts xs h =
 
 pub args_written : {d : ℕ} {ts : Toks} {xs : List Expr} → IsArgs d ts xs → AreWritten ts → Written (map unplaced_expr) (IsArgs d) (args xs) ts xs
 args_written IsArgs.missing h = absurd h.0
-args_written (IsArgs.brackets {d} {ts} {xs} p) h = brackets_case d ts xs p
+args_written (IsArgs.brackets {depth = d} {inside = ts} {args = xs} p) h = brackets_case d ts xs p
 
 -- ---- calls
 
@@ -116,7 +115,7 @@ name_no_heap [] t e = t
 name_no_heap (b ∷ bytes) t e = t.2 k.Heap e
 
 object_seen : {t : Tok} {n : Name} → IsObject t n → IsWritten t → unplaced_tok t ≡ object_tok n
-object_seen (IsObject.named {n}) w = by (bytes_eq n.text (codes "heap")) refl
+object_seen (IsObject.named {object = n}) w = by (bytes_eq n.text (codes "heap")) refl
   where
     by : (v : Bool) → bytes_eq n.text (codes "heap") ≡ v → Tok.name (unplaced_name n) ≡ (if v then Tok.heap nowhere else Tok.name (unplaced_name n))
     by true same = absurd (name_no_heap n.text w.0 ((bytes_eq-Decides n.text (codes "heap")).0 same))
@@ -164,8 +163,8 @@ reducing_case d t o n by ts xs p q h =
     }
 
 pub call_written : {d : ℕ} {ts : Toks} {c : CallText} → IsCall d ts c → AreWritten ts → Written unplaced_call (IsCall d) (call c) ts c
-call_written (IsCall.call {t} p q) h = by_operation p q h
+call_written (IsCall.call {token = t} p q) h = by_operation p q h
   where
     by_operation : {d : ℕ} {o : Name} {ts : Toks} {c : CallText} → IsObject t o → IsOperation d o ts c → AreWritten (t ∷ Tok.sign s.Dot ∷ ts) → Written unplaced_call (IsCall d) (call c) (t ∷ Tok.sign s.Dot ∷ ts) c
-    by_operation p (IsOperation.plain {d} {object = o} {op = n} {ts} {xs} q) h = plain_case d t o n ts xs p q h
-    by_operation p (IsOperation.reducing {d} {object = o} {op = n} {by = m} {ts} {xs} q) h = reducing_case d t o n m ts xs p q h
+    by_operation p (IsOperation.plain {depth = d} {object = o} {op = n} {inside = ts} {args = xs} q) h = plain_case d t o n ts xs p q h
+    by_operation p (IsOperation.reducing {depth = d} {object = o} {op = n} {reducer = m} {inside = ts} {args = xs} q) h = reducing_case d t o n m ts xs p q h

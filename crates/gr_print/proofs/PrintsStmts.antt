@@ -12,8 +12,7 @@ use Rattle.gr_syntax.specs.declared.syntax.Stmt.{Stmt}
 use Rattle.gr_syntax.specs.declared.syntax.Stmt.TheVariants as st
 use Rattle.gr_text.specs.declared.token.Keyword.TheVariants as k
 use Rattle.gr_text.specs.declared.token.Sign.TheVariants as s
-use Rattle.gr_parse.specs.Tok.{Tok}
-use Rattle.gr_parse.specs.Operands.{Toks}
+use Rattle.gr_parse.specs.Tok.{Tok, Toks}
 use Rattle.gr_parse.specs.Grammar.{IsExpr, IsArgs, IsCall, IsRight, IsAssignment, IsHow, IsStmt, IsBlock, IsStmts}
 use Rattle.gr_print.specs.Unplaced.{unplaced_name, unplaced_tok, unplaced_expr, unplaced_call, unplaced_right, unplaced_how, unplaced_stmt}
 use Rattle.gr_print.specs.Pieces.{Piece, Layout, key, sign}
@@ -56,10 +55,10 @@ semicolons = Tok.sign s.Semicolon ∷ []
 -- ---- assignments
 
 right_written : {d : ℕ} {ts : Toks} {r : Right} → IsRight d ts r → AreWritten ts → Written unplaced_right (IsRight d) (right_side r) ts r
-right_written (IsRight.value {d} {ts} {x} p) h =
+right_written (IsRight.value {depth = d} {inside = ts} {inner = x} p) h =
     let w = expr_written d ts x p in
     record { spelled = record { each = each_last w.spelled (λ f y q same. record { tree = right.Value y; spelled = IsRight.value q; same = ap (λ (z : Expr). right.Value z) same }) }; within = w.within }
-right_written (IsRight.result {d} {ts} {c} p) h =
+right_written (IsRight.result {depth = d} {inside = ts} {done = c} p) h =
     let w = call_written p h in
     record { spelled = record { each = each_last w.spelled (λ f y q same. record { tree = right.Result y; spelled = IsRight.result q; same = ap (λ (z : CallText). right.Result z) same }) }; within = w.within }
 
@@ -114,8 +113,8 @@ two_case d fresh n m ts c p h =
     }
 
 assignment_written : {d : ℕ} {fresh : Bool} {ts : Toks} {x : Stmt} → IsAssignment d fresh ts x → AreWritten ts → Assigned d fresh ts x
-assignment_written (IsAssignment.one {d} {fresh} {n} {ts} {r} p) h = one_case d fresh n ts r p h
-assignment_written (IsAssignment.two {d} {fresh} {n} {m} {ts} {c} p) h = two_case d fresh n m ts c p h
+assignment_written (IsAssignment.one {depth = d} {fresh} {target = n} {inside = ts} {right = r} p) h = one_case d fresh n ts r p h
+assignment_written (IsAssignment.two {depth = d} {fresh} {first = n} {second = m} {inside = ts} {done = c} p) h = two_case d fresh n m ts c p h
 
 -- ---- statements
 
@@ -221,7 +220,7 @@ finish_case d ts xs b = laid_out d (Tok.key k.Finish ∷ ts) (st.Finish xs) (λ 
 how_written : {d : ℕ} {ts : Toks} {w : HowText} → IsHow d ts w → Written unplaced_how (IsHow d) (start w) ts w
 how_written IsHow.here = record { spelled = record { each = each_key k.Spawn (each_nil (record { tree = how.Here; spelled = IsHow.here; same = refl })) }; within = part.whole (Tok.key k.Spawn ∷ []) }
 how_written IsHow.offer = record { spelled = record { each = each_key k.Offer (each_nil (record { tree = how.Offer; spelled = IsHow.offer; same = refl })) }; within = part.whole (Tok.key k.Offer ∷ []) }
-how_written (IsHow.at {d} {ts} {x} p) =
+how_written (IsHow.at {depth = d} {inside = ts} {core = x} p) =
     let w = expr_written d ts x p in
     record {
       spelled = record { each = each_key k.Spawn (each_key k.At (each_last w.spelled (λ f y q same. record { tree = how.At y; spelled = IsHow.at q; same = ap (λ (z : Expr). how.At z) same }))) };
@@ -323,20 +322,20 @@ none_case d = record { at = λ m. record { spelled = record { each = each_nil (r
 
 mutual
   stmt_written : {d : ℕ} {ts : Toks} {x : Stmt} → IsStmt d ts x → AreWritten ts → StmtWritten d ts x
-  stmt_written (IsStmt.assign {d} {ts} {x} p) h = assign_case d ts x (assignment_written p h)
-  stmt_written (IsStmt.let_fresh {d} {ts} {x} p) h = let_case d ts x (assignment_written p h.1)
-  stmt_written (IsStmt.call {d} {ts} {c} p) h = do_case d ts c (call_written p (front_written ts semicolons h))
-  stmt_written (IsStmt.print {d} {ts} {x} p) h = print_case d ts x p
-  stmt_written (IsStmt.if_only {d} {ts} {us} {x} {xs} p q) h =
+  stmt_written (IsStmt.assign {depth = d} {inside = ts} {assignment = x} p) h = assign_case d ts x (assignment_written p h)
+  stmt_written (IsStmt.let_fresh {depth = d} {inside = ts} {assignment = x} p) h = let_case d ts x (assignment_written p h.1)
+  stmt_written (IsStmt.call {depth = d} {inside = ts} {done = c} p) h = do_case d ts c (call_written p (front_written ts semicolons h))
+  stmt_written (IsStmt.print {depth = d} {inside = ts} {value = x} p) h = print_case d ts x p
+  stmt_written (IsStmt.if_only {depth = d} {front = ts} {inside = us} {test = x} {body = xs} p q) h =
       subst (λ (u : Toks). StmtWritten d (Tok.key k.If ∷ (ts ++ u)) (st.If x xs [])) (append-nil us) (if_only_case d ts us x xs [] p (block_written q (behind_written ts us h.1)))
-  stmt_written (IsStmt.if_else {d} {ts} {us} {vs} {x} {xs} {ys} p q r) h =
+  stmt_written (IsStmt.if_else {depth = d} {front = ts} {inside = us} {back = vs} {test = x} {body = xs} {other = ys} p q r) h =
       let rest = behind_written ts (us ++ Tok.key k.Else ∷ vs) h.1 in
       if_else_case d ts us vs x xs ys p (block_written q (front_written us (Tok.key k.Else ∷ vs) rest)) (block_written r (behind_written us (Tok.key k.Else ∷ vs) rest).1)
-  stmt_written (IsStmt.while_loop {d} {ts} {us} {x} {xs} p q) h = while_case d ts us x xs p (block_written q (behind_written ts us h.1))
-  stmt_written (IsStmt.finish {d} {ts} {xs} q) h = finish_case d ts xs (block_written q h.1)
-  stmt_written (IsStmt.spawn {d} {us} {ts} {h = w} {n} {xs} p q) h =
+  stmt_written (IsStmt.while_loop {depth = d} {front = ts} {inside = us} {test = x} {body = xs} p q) h = while_case d ts us x xs p (block_written q (behind_written ts us h.1))
+  stmt_written (IsStmt.finish {depth = d} {inside = ts} {body = xs} q) h = finish_case d ts xs (block_written q h.1)
+  stmt_written (IsStmt.spawn {depth = d} {front = us} {inside = ts} {how = w} {task = n} {args = xs} p q) h =
       spawn_case d us ts w n xs p (args_written q (front_written ts semicolons (behind_written us (Tok.name n ∷ (ts ++ semicolons)) h).1))
-  stmt_written (IsStmt.forall_loop {d} {a} {b} {c} {ts} {lo} {hi} {grain} {n} {xs} p q r t) h =
+  stmt_written (IsStmt.forall_loop {depth = d} {from = a} {to = b} {by = c} {inside = ts} {lo} {hi} {grain} {task = n} {args = xs} p q r t) h =
       let last = Tok.name n ∷ (ts ++ semicolons) in
       let middle = Tok.key k.Grain ∷ (c ++ last) in
       let one = behind_written a (Tok.sign s.DotDot ∷ (b ++ middle)) h.1 in
@@ -346,8 +345,8 @@ mutual
 
   pub block_written : {d : ℕ} {ts : Toks} {xs : List Stmt} → IsBlock d ts xs → AreWritten ts → BlockWritten d ts xs
   block_written IsBlock.missing h = absurd h.0
-  block_written (IsBlock.braces {d} {ts} {xs} p) h = braces_case d ts xs (stmts_written p (front_written ts (Tok.sign s.RightBrace ∷ []) h.1))
+  block_written (IsBlock.braces {depth = d} {inside = ts} {body = xs} p) h = braces_case d ts xs (stmts_written p (front_written ts (Tok.sign s.RightBrace ∷ []) h.1))
 
   stmts_written : {d : ℕ} {ts : Toks} {xs : List Stmt} → IsStmts d ts xs → AreWritten ts → StmtsWritten d ts xs
-  stmts_written (IsStmts.none {d}) h = none_case d
-  stmts_written (IsStmts.one_more {d} {ts} {us} {x} {xs} p q) h = more_case d ts us x xs (stmt_written p (front_written ts us h)) (stmts_written q (behind_written ts us h))
+  stmts_written (IsStmts.none {depth = d}) h = none_case d
+  stmts_written (IsStmts.one_more {depth = d} {front = ts} {back = us} {first = x} {others = xs} p q) h = more_case d ts us x xs (stmt_written p (front_written ts us h)) (stmts_written q (behind_written ts us h))

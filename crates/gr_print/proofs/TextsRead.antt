@@ -19,14 +19,14 @@ use Rattle.gr_text.specs.Places.{place_of}
 use Rattle.gr_text.specs.Spelling.{keyword_bytes, sign_bytes}
 use Rattle.std.specs.List.{list_all}
 use Rattle.gr_syntax.specs.Names.{is_letter, is_digit, is_word}
-use Rattle.gr_text.specs.Text.{Text, HasHead, IsLongest, IsToken, ReadsFrom, token_at}
+use Rattle.gr_text.specs.Text.{Text, IsLongest, IsToken, ReadsFrom, token_at}
+use Rattle.gr_text.specs.FrontWords.{HasHead}
 use Rattle.gr_text.specs.Text as text
 use Rattle.gr_text.proofs.Longest.{IsOther, sign_front}
 use Rattle.gr_text.proofs.Runs.{and_first}
 use Rattle.gr_text.proofs.Signs.{sign_head, some_sign}
 use Rattle.gr_text.proofs.Words.{keyword_head}
-use Rattle.gr_parse.specs.Tok.{Tok, tok_of, tok_of_kind, toks}
-use Rattle.gr_parse.specs.Operands.{Toks}
+use Rattle.gr_parse.specs.Tok.{Tok, tok_of, tok_of_kind, toks, Toks}
 use Rattle.gr_parse.proofs.Whole.{toks_more, toks_none}
 use Rattle.gr_print.specs.Unplaced.{unplaced_tok}
 use Rattle.gr_print.specs.Pieces.{Piece, Layout, token_bytes, bytes_of}

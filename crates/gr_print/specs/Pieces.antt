@@ -6,7 +6,7 @@ use Rattle.gr_syntax.specs.declared.syntax.Name.{Name}
 use Rattle.gr_syntax.specs.declared.syntax.Number.{Number}
 use Rattle.gr_text.specs.declared.token.Keyword.{Keyword}
 use Rattle.gr_text.specs.declared.token.Sign.{Sign}
-use Rattle.gr_text.specs.declared.token.Sign.TheVariants as s
+use Rattle.gr_text.specs.declared.token.Sign.TheVariants as signs
 use Rattle.gr_text.specs.Spelling.{keyword_bytes, sign_bytes}
 use Rattle.gr_parse.specs.Tok.{Tok}
 use Rattle.gr_print.specs.Unplaced.{nowhere, unplaced_name, unplaced_number}
@@ -23,33 +23,33 @@ Layout = List Piece
 
 -- A token as a text writes it. None writes the token that no text has.
 abbrev pub token_bytes : Tok → List ℕ
-token_bytes (Tok.name n) = n.text
-token_bytes (Tok.number n) = decimal n.value
+token_bytes (Tok.name given) = given.text
+token_bytes (Tok.number given) = decimal given.value
 token_bytes (Tok.heap at) = codes "heap"
 token_bytes (Tok.key word) = keyword_bytes word
-token_bytes (Tok.sign g) = sign_bytes g
+token_bytes (Tok.sign mark) = sign_bytes mark
 token_bytes Tok.missing = []
 
 -- A blank is a space.
 abbrev pub piece_bytes : Piece → List ℕ
-piece_bytes (Piece.token t) = token_bytes t
+piece_bytes (Piece.token given) = token_bytes given
 piece_bytes Piece.blank = codes " "
 piece_bytes Piece.newline = codes "\n"
 
 -- The text that is laid out so.
 abbrev pub bytes_of : Layout → List ℕ
 bytes_of [] = []
-bytes_of (p ∷ ps) = piece_bytes p ++ bytes_of ps
+bytes_of (first ∷ others) = piece_bytes first ++ bytes_of others
 
 -- ---- tokens as pieces
 
 -- A name.
 abbrev pub name : Name → Piece
-name n = Piece.token (Tok.name (unplaced_name n))
+name given = Piece.token (Tok.name (unplaced_name given))
 
 -- A number.
 abbrev pub number : Number → Piece
-number n = Piece.token (Tok.number (unplaced_number n))
+number given = Piece.token (Tok.number (unplaced_number given))
 
 -- A keyword.
 abbrev pub key : Keyword → Piece
@@ -57,11 +57,11 @@ key word = Piece.token (Tok.key word)
 
 -- A sign.
 abbrev pub sign : Sign → Piece
-sign g = Piece.token (Tok.sign g)
+sign mark = Piece.token (Tok.sign mark)
 
 -- The end of a statement or item that has no block.
 abbrev pub semicolon : Layout
-semicolon = sign s.Semicolon ∷ []
+semicolon = sign signs.Semicolon ∷ []
 
 -- The keyword `heap`.
 abbrev pub heap : Piece
@@ -69,8 +69,8 @@ heap = Piece.token (Tok.heap nowhere)
 
 -- The object of a call as a token: the heap is its keyword, any other its name.
 abbrev pub object_tok : Name → Tok
-object_tok n = if bytes_eq n.text (codes "heap") then Tok.heap nowhere else Tok.name (unplaced_name n)
+object_tok given = if bytes_eq given.text (codes "heap") then Tok.heap nowhere else Tok.name (unplaced_name given)
 
 -- The object of a call.
 abbrev pub object : Name → Piece
-object n = Piece.token (object_tok n)
+object given = Piece.token (object_tok given)

@@ -11,7 +11,8 @@ use std::alloc::AllocError;
 use std::fmt::Write;
 
 fn write_input(out: &mut String, name: &Name, values: &[Number]) -> Result<(), AllocError>
-    ensures { OnOk result (string_bytes out.new ≡ string_bytes out.old ++ bytes_of (spec.input name.now values.now)) }
+    ensures { OnOk result (string_bytes out.new
+        ≡ string_bytes out.old ++ bytes_of (spec.input name.now values.now)) }
 {
     write!(out, "input {} = ", name.text.as_str())?;
     write_numbers(out, values)?;
@@ -26,7 +27,8 @@ fn write_task(
     body: &[Stmt],
 ) -> Result<(), AllocError>
     requires { margin.now ≡ 0 }
-    ensures { OnOk result (string_bytes out.new ≡ string_bytes out.old ++ bytes_of (spec.task name.now params.now body.now)) }
+    ensures { OnOk result (string_bytes out.new
+        ≡ string_bytes out.old ++ bytes_of (spec.task name.now params.now body.now)) }
 {
     write!(out, "task {}(", name.text.as_str())?;
     write_names(out, params)?;
@@ -37,7 +39,8 @@ fn write_task(
 /// Writes an item, in a line with no margin.
 pub(crate) fn write_item(out: &mut String, margin: &Margin, item: &Item) -> Result<(), AllocError>
     requires { margin.now ≡ 0 }
-    ensures { OnOk result (string_bytes out.new ≡ string_bytes out.old ++ bytes_of (spec.item item.now)) }
+    ensures { OnOk result (string_bytes out.new
+        ≡ string_bytes out.old ++ bytes_of (spec.item item.now)) }
 {
     match item {
         Item::Array { name, words } => write!(

@@ -1,33 +1,18 @@
 //! Expressions as text.
 ghost use Rattle.std.specs.Prelude.{◌≡◌, ◌++◌, ◌≤◌, OnOk, string_bytes};
 ghost use Rattle.gr_parse.specs.Tok as grammar;
+ghost use Rattle.gr_parse.specs.declared.limits.TheConstants.{LOOSEST};
 ghost use Rattle.gr_print.specs.Layout as spec;
 ghost use Rattle.gr_print.specs.Pieces.{bytes_of};
 
+use gr_parse::{LOOSEST, level_of};
 use gr_syntax::{BinOp, Expr};
-use gr_text::token::Sign;
+use gr_text::Sign;
 use std::alloc::AllocError;
 use std::fmt::Write;
 
 /// Above the level of every sign.
-const WHOLE: u8 = 6;
-
-/// The level of the comparisons, which don't group.
-const COMPARISON: u8 = 5;
-
-/// How loosely a sign binds, 0 the tightest.
-fn level_of(op: BinOp) -> u8
-    ensures { result ≡ grammar.level_of op }
-{
-    match op {
-        BinOp::Eq | BinOp::Ne | BinOp::Lt | BinOp::Le | BinOp::Gt | BinOp::Ge => COMPARISON,
-        BinOp::Or => 4,
-        BinOp::Xor => 3,
-        BinOp::And => 2,
-        BinOp::Add | BinOp::Sub => 1,
-        BinOp::Mul | BinOp::Div | BinOp::Rem => 0,
-    }
-}
+const WHOLE: u8 = LOOSEST + 1;
 
 /// The sign that is written for it.
 fn sign_of(op: BinOp) -> Sign
@@ -53,19 +38,16 @@ fn sign_of(op: BinOp) -> Sign
 
 /// Left of a sign of this level, only signs below the level that is given here need no brackets.
 fn left_level(level: u8) -> u8
-    requires { level ≤ 5 }
+    requires { level ≤ LOOSEST }
     ensures { result ≡ spec.left_level level }
 {
-    if level == COMPARISON {
-        COMPARISON
-    } else {
-        level + 1
-    }
+    if level == LOOSEST { LOOSEST } else { level + 1 }
 }
 
 /// Writes a bracket where it is needed.
 fn write_bracket(out: &mut String, needed: bool, bracket: Sign) -> Result<(), AllocError>
-    ensures { OnOk result (string_bytes out.new ≡ string_bytes out.old ++ bytes_of (spec.bracket needed bracket)) }
+    ensures { OnOk result (string_bytes out.new
+        ≡ string_bytes out.old ++ bytes_of (spec.bracket needed bracket)) }
 {
     if needed {
         out.push_str(bracket.text())
@@ -77,7 +59,8 @@ fn write_bracket(out: &mut String, needed: bool, bracket: Sign) -> Result<(), Al
 /// Writes an expression where only signs below this level may stand without brackets.
 #[tactic(auto, using(crate::proofs::Texts::expressions))]
 fn write_below(out: &mut String, level: u8, value: &Expr) -> Result<(), AllocError>
-    ensures { OnOk result (string_bytes out.new ≡ string_bytes out.old ++ bytes_of (spec.below level (spec.shown value.now))) }
+    ensures { OnOk result (string_bytes out.new
+        ≡ string_bytes out.old ++ bytes_of (spec.below level (spec.shown value.now))) }
 {
     match value {
         Expr::Lit { number } => {
@@ -103,7 +86,8 @@ fn write_below(out: &mut String, level: u8, value: &Expr) -> Result<(), AllocErr
 
 /// Writes an expression.
 pub(crate) fn write_expr(out: &mut String, value: &Expr) -> Result<(), AllocError>
-    ensures { OnOk result (string_bytes out.new ≡ string_bytes out.old ++ bytes_of (spec.expr value.now)) }
+    ensures { OnOk result (string_bytes out.new
+        ≡ string_bytes out.old ++ bytes_of (spec.expr value.now)) }
 {
     write_below(out, WHOLE, value)
 }

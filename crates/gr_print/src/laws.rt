@@ -6,12 +6,13 @@ ghost use Rattle.gr_text.specs.Text.{Reads};
 ghost use Rattle.gr_text.specs.declared.token.Token.{Token};
 ghost use Rattle.gr_parse.specs.Tok.{toks};
 ghost use Rattle.gr_parse.specs.Grammar.{IsProgramOf};
-ghost use Rattle.gr_print.specs.Printed.{IsSpelled, IsSpelling};
-ghost use Rattle.gr_print.specs.Unplaced.{SameButForPlaces};
+ghost use Rattle.gr_print.specs.Printed.{IsSpelled, IsSpelling, ReadsBack};
 
-/// States that the tokens of each text that is read as a program, but for places, are a spelling of the program, and
-/// that each program that a text is read as is spelled.
+/// States that the tokens of each text that is read as a program, but for places, are a spelling of the
+/// program, and that each program that a text is read as is spelled.
 pub fn texts_are_spellings()
-    ensures spelling { (text : List ℕ) (tokens : List Token) (read program : Program) → Reads text (Ok tokens) → (of : IsProgramOf text tokens read) → SameButForPlaces read program → IsSpelling (toks text of.front) program }
-    ensures spelled { (text : List ℕ) (tokens : List Token) (program : Program) → Reads text (Ok tokens) → IsProgramOf text tokens program → IsSpelled program }
+    ensures spelling { (text : List ℕ) (program : Program) (back : ReadsBack text program)
+        → IsSpelling (toks text back.spelled.front) program }
+    ensures spelled { (text : List ℕ) (tokens : List Token) (program : Program)
+        → Reads text (Ok tokens) → IsProgramOf text tokens program → IsSpelled program }
 {}

@@ -8,8 +8,6 @@ mod margin;
 mod parts;
 mod printing;
 mod statements;
-#[cfg(test)]
-mod tests;
 
 pub use laws::texts_are_spellings;
 pub use printing::print_program;

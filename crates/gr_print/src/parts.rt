@@ -10,7 +10,8 @@ use std::fmt::Write;
 
 /// Writes names with a comma between two.
 pub(crate) fn write_names(out: &mut String, names: &[Name]) -> Result<(), AllocError>
-    ensures { OnOk result (string_bytes out.new ≡ string_bytes out.old ++ bytes_of (spec.names names.now)) }
+    ensures { OnOk result (string_bytes out.new
+        ≡ string_bytes out.old ++ bytes_of (spec.names names.now)) }
 {
     if let Some((first, others)) = names.split_first() {
         out.push_str(first.text.as_str())?;
@@ -23,7 +24,8 @@ pub(crate) fn write_names(out: &mut String, names: &[Name]) -> Result<(), AllocE
 
 /// Writes numbers with a comma between two.
 pub(crate) fn write_numbers(out: &mut String, numbers: &[Number]) -> Result<(), AllocError>
-    ensures { OnOk result (string_bytes out.new ≡ string_bytes out.old ++ bytes_of (spec.numbers numbers.now)) }
+    ensures { OnOk result (string_bytes out.new
+        ≡ string_bytes out.old ++ bytes_of (spec.numbers numbers.now)) }
 {
     if let Some((first, others)) = numbers.split_first() {
         write!(out, "{}", first.value)?;
@@ -36,7 +38,8 @@ pub(crate) fn write_numbers(out: &mut String, numbers: &[Number]) -> Result<(), 
 
 /// Writes expressions with a comma between two.
 fn write_exprs(out: &mut String, values: &[Expr]) -> Result<(), AllocError>
-    ensures { OnOk result (string_bytes out.new ≡ string_bytes out.old ++ bytes_of (spec.exprs values.now)) }
+    ensures { OnOk result (string_bytes out.new
+        ≡ string_bytes out.old ++ bytes_of (spec.exprs values.now)) }
 {
     if let Some((first, others)) = values.split_first() {
         write_expr(out, first)?;
@@ -50,7 +53,8 @@ fn write_exprs(out: &mut String, values: &[Expr]) -> Result<(), AllocError>
 
 /// Writes arguments in their brackets.
 pub(crate) fn write_args(out: &mut String, values: &[Expr]) -> Result<(), AllocError>
-    ensures { OnOk result (string_bytes out.new ≡ string_bytes out.old ++ bytes_of (spec.args values.now)) }
+    ensures { OnOk result (string_bytes out.new
+        ≡ string_bytes out.old ++ bytes_of (spec.args values.now)) }
 {
     out.push_str("(")?;
     write_exprs(out, values)?;
@@ -59,7 +63,8 @@ pub(crate) fn write_args(out: &mut String, values: &[Expr]) -> Result<(), AllocE
 
 /// Writes a reducer between two blanks, if there is one.
 fn write_reducer(out: &mut String, reducer: &Option<Name>) -> Result<(), AllocError>
-    ensures { OnOk result (string_bytes out.new ≡ string_bytes out.old ++ bytes_of (spec.reducer reducer.now)) }
+    ensures { OnOk result (string_bytes out.new
+        ≡ string_bytes out.old ++ bytes_of (spec.reducer reducer.now)) }
 {
     match reducer {
         Some(name) => {
@@ -72,7 +77,8 @@ fn write_reducer(out: &mut String, reducer: &Option<Name>) -> Result<(), AllocEr
 
 /// Writes a call.
 pub(crate) fn write_call(out: &mut String, call: &CallText) -> Result<(), AllocError>
-    ensures { OnOk result (string_bytes out.new ≡ string_bytes out.old ++ bytes_of (spec.call call.now)) }
+    ensures { OnOk result (string_bytes out.new
+        ≡ string_bytes out.old ++ bytes_of (spec.call call.now)) }
 {
     write!(
         out,

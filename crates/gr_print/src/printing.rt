@@ -8,10 +8,11 @@ use crate::margin::Margin;
 use gr_syntax::Program;
 use std::alloc::{AllocError, Global};
 
-/// The text of a program: one item or statement a line, blocks indented by two blanks, one blank around binary signs.
+/// The text of a program: one item or statement a line, blocks indented by two blanks, one blank around
+/// binary signs.
 ///
-/// Where the program is, but for places, one that the grammar gives, the text is read as this program, but for
-/// places, and no text that is read so has fewer brackets. There may be no memory.
+/// Where the program is, but for places, one that the grammar gives, the text is read as this program, but
+/// for places, and no text that is read so has fewer brackets. There may be no memory.
 pub fn print_program(alloc: Global, program: &Program) -> Result<Vec<u8>, AllocError>
     ensures layout { IfOk result (λ text. text.items ≡ program_text program.now) }
     ensures least { IsSpelled program.now → IfOk result (λ text. IsLeast text.items program.now) }

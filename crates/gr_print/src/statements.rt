@@ -12,7 +12,8 @@ use std::fmt::Write;
 
 /// Writes what stands right of `=`.
 fn write_right(out: &mut String, right: &Right) -> Result<(), AllocError>
-    ensures { OnOk result (string_bytes out.new ≡ string_bytes out.old ++ bytes_of (spec.right_side right.now)) }
+    ensures { OnOk result (string_bytes out.new
+        ≡ string_bytes out.old ++ bytes_of (spec.right_side right.now)) }
 {
     match right {
         Right::Value { value } => write_expr(out, value),
@@ -21,7 +22,8 @@ fn write_right(out: &mut String, right: &Right) -> Result<(), AllocError>
 }
 
 fn write_let(out: &mut String, fresh: bool) -> Result<(), AllocError>
-    ensures { OnOk result (string_bytes out.new ≡ string_bytes out.old ++ bytes_of (spec.let_word fresh)) }
+    ensures { OnOk result (string_bytes out.new
+        ≡ string_bytes out.old ++ bytes_of (spec.let_word fresh)) }
 {
     if fresh { out.push_str("let ") } else { Ok(()) }
 }
@@ -32,7 +34,8 @@ fn write_assignment(
     targets: &[Name],
     right: &Right,
 ) -> Result<(), AllocError>
-    ensures { OnOk result (string_bytes out.new ≡ string_bytes out.old ++ bytes_of (spec.assignment fresh targets.now right.now)) }
+    ensures { OnOk result (string_bytes out.new
+        ≡ string_bytes out.old ++ bytes_of (spec.assignment fresh targets.now right.now)) }
 {
     write_let(out, fresh)?;
     write_names(out, targets)?;
@@ -43,7 +46,8 @@ fn write_assignment(
 
 /// Writes where a new task may run.
 fn write_start(out: &mut String, how: &HowText) -> Result<(), AllocError>
-    ensures { OnOk result (string_bytes out.new ≡ string_bytes out.old ++ bytes_of (spec.start how.now)) }
+    ensures { OnOk result (string_bytes out.new
+        ≡ string_bytes out.old ++ bytes_of (spec.start how.now)) }
 {
     match how {
         HowText::Here => out.push_str("spawn"),
@@ -57,7 +61,8 @@ fn write_start(out: &mut String, how: &HowText) -> Result<(), AllocError>
 
 /// Writes a task that is started, with its arguments.
 fn write_started(out: &mut String, target: &Name, values: &[Expr]) -> Result<(), AllocError>
-    ensures { OnOk result (string_bytes out.new ≡ string_bytes out.old ++ bytes_of (spec.started target.now values.now)) }
+    ensures { OnOk result (string_bytes out.new
+        ≡ string_bytes out.old ++ bytes_of (spec.started target.now values.now)) }
 {
     write!(out, " {}", target.text.as_str())?;
     write_args(out, values)?;
@@ -66,7 +71,8 @@ fn write_started(out: &mut String, target: &Name, values: &[Expr]) -> Result<(),
 
 /// Writes the head of a `forall`: its bounds and its grain.
 fn write_range(out: &mut String, lo: &Expr, hi: &Expr, grain: &Expr) -> Result<(), AllocError>
-    ensures { OnOk result (string_bytes out.new ≡ string_bytes out.old ++ bytes_of (spec.range lo.now hi.now grain.now)) }
+    ensures { OnOk result (string_bytes out.new
+        ≡ string_bytes out.old ++ bytes_of (spec.range lo.now hi.now grain.now)) }
 {
     out.push_str("forall ")?;
     write_expr(out, lo)?;
@@ -79,7 +85,8 @@ fn write_range(out: &mut String, lo: &Expr, hi: &Expr, grain: &Expr) -> Result<(
 /// Writes a statement that begins in a line with this margin.
 #[cycle(statements)]
 fn write_stmt(out: &mut String, margin: &Margin, stmt: &Stmt) -> Result<(), AllocError>
-    ensures { OnOk result (string_bytes out.new ≡ string_bytes out.old ++ bytes_of (spec.stmt stmt.now margin.now)) }
+    ensures { OnOk result (string_bytes out.new
+        ≡ string_bytes out.old ++ bytes_of (spec.stmt stmt.now margin.now)) }
 {
     match stmt {
         Stmt::Set1 {
@@ -133,7 +140,8 @@ fn write_stmt(out: &mut String, margin: &Margin, stmt: &Stmt) -> Result<(), Allo
 /// Writes the block behind `else`, or nothing where it is empty.
 #[cycle(statements)]
 fn write_else(out: &mut String, margin: &Margin, block: &[Stmt]) -> Result<(), AllocError>
-    ensures { OnOk result (string_bytes out.new ≡ string_bytes out.old ++ bytes_of (spec.else_part (map spec.stmt block.now) margin.now)) }
+    ensures { OnOk result (string_bytes out.new
+        ≡ string_bytes out.old ++ bytes_of (spec.else_part (map spec.stmt block.now) margin.now)) }
 {
     if block.is_empty() {
         return Ok(());
@@ -149,7 +157,8 @@ pub(crate) fn write_block(
     margin: &Margin,
     block: &[Stmt],
 ) -> Result<(), AllocError>
-    ensures { OnOk result (string_bytes out.new ≡ string_bytes out.old ++ bytes_of (spec.block (map spec.stmt block.now) margin.now)) }
+    ensures { OnOk result (string_bytes out.new
+        ≡ string_bytes out.old ++ bytes_of (spec.block (map spec.stmt block.now) margin.now)) }
 {
     out.push_str("{\n")?;
     write_lines(out, &margin.deeper()?, block)?;
@@ -160,7 +169,8 @@ pub(crate) fn write_block(
 /// Writes statements, each in a line with this margin.
 #[cycle(statements)]
 fn write_lines(out: &mut String, margin: &Margin, block: &[Stmt]) -> Result<(), AllocError>
-    ensures { OnOk result (string_bytes out.new ≡ string_bytes out.old ++ bytes_of (spec.lines (map spec.stmt block.now) margin.now)) }
+    ensures { OnOk result (string_bytes out.new
+        ≡ string_bytes out.old ++ bytes_of (spec.lines (map spec.stmt block.now) margin.now)) }
 {
     'each: for stmt in block {
         out.push_str(margin.as_str())?;

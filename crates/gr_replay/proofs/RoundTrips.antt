@@ -1,5 +1,5 @@
 -- What is written of a legal history names it again.
-use Rattle.std.proofs.Common.{◌≡◌, ℕ, ◌==◌, Bool, true, false, ◌&&◌, List, [], ◌∷◌, map, slice_get, take, Option, Some, None, unwrap_or, refl, sym, ap, ap₂, subst, codes, true≢false, eqb-true, ◌∙◌}
+use Rattle.std.proofs.Common.{◌≡◌, ℕ, ◌==◌, Bool, true, false, List, [], ◌∷◌, map, slice_get, take, Option, Some, None, unwrap_or, refl, sym, ap, ap₂, subst, codes, true≢false, eqb-true, ◌∙◌}
 use Rattle.std.specs.Prelude.{if◌then◌else◌}
 use Rattle.std.specs.Option.{option_and_then, option_map}
 use Rattle.std.specs.Str.{bytes_eq}

@@ -31,9 +31,9 @@ fn behind(text: &[u8], len: usize) -> &[u8]
     }
 }
 
-/// The program text, which is all before the first line that is exactly `---`, and the history text,
-/// which is all behind that line. Where there is no such line the whole source is the program text, and
-/// the history text is empty.
+/// The program text, which is all before the first line that is exactly `---`, and the history
+/// text, which is all behind that line. Where there is no such line the whole source is the program
+/// text, and the history text is empty.
 pub fn divide(source: &[u8]) -> (&[u8], &[u8])
     ensures program { result.0.now ≡ program_part source.now }
     ensures history { result.1.now ≡ history_part source.now }

@@ -12,12 +12,7 @@ use gr_syntax::{HEAP, Text};
 use std::alloc::AllocError;
 
 /// Whether so many numbers, reply words and reducers are what the operation takes and gives.
-fn has_counts(
-    operation: Operation,
-    reducer: Option<u64>,
-    numbers: &[u64],
-    words: &[u64],
-) -> bool
+fn has_counts(operation: Operation, reducer: Option<u64>, numbers: &[u64], words: &[u64]) -> bool
     ensures { result ≡ spec.has_counts operation reducer numbers.now words.now }
 {
     numbers.len() == operation.argument_count()
@@ -81,8 +76,8 @@ fn call_in(
     numbers: &[u64],
     words: &[u64],
 ) -> Option<Entry>
-    ensures { result ≡ option_and_then
-        (spec.call_at task operation reducer numbers.now words.now) (object_named names.now object.now) }
+    ensures { result ≡ option_and_then (spec.call_at task operation reducer numbers.now words.now)
+        (object_named names.now object.now) }
 {
     let object = names.object(object)?;
     call_at(task, operation, reducer, numbers, words, object)
@@ -173,8 +168,8 @@ fn nameless(line: &NamedEntry) -> Option<Entry>
     }
 }
 
-/// The entry that the line names in the program; None where the program doesn't have a name of the line,
-/// or its operation takes or gives other words. An error is want of memory.
+/// The entry that the line names in the program; None where the program doesn't have a name of the
+/// line, or its operation takes or gives other words. An error is want of memory.
 #[tactic(auto, unfolding(crate::specs::Entries::entry_in))]
 pub fn entry_in(names: &ProgramNames, line: &NamedEntry) -> Result<Option<Entry>, AllocError>
     ensures { IfOk result (λ found. found ≡ spec.entry_in names.now line.now) }

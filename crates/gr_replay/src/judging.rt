@@ -21,7 +21,7 @@ pub struct Replayed {
 /// Why a history text isn't legal, or why nothing is said of it.
 #[derive(Debug, Drop, Error)]
 pub enum ReplayError {
-    /// The first entry that isn't legal where it stands; entries count from 1, and the header is none.
+    /// The first entry that isn't legal where it stands. Entries count from 1, the header not counted.
     #[error("not legal at entry {entry}")]
     NotLegal { entry: u64 },
     /// There is no memory.
@@ -69,17 +69,17 @@ fn replay_error(error: StepError, entry: u64) -> ReplayError
     }
 }
 
-/// Replays a history text on a program, with the number of cores and the limit of steps of its header.
-/// It is legal where each line names an entry that is a step after those before it; of any other the
-/// first line that is none is reported. A line whose object or task the program doesn't have names no
-/// entry. `OutOfMemory` says nothing of the text.
+/// Replays a history text on a program, with the number of cores and the limit of steps of its
+/// header. It is legal where each line names an entry that is a step after those before it; of any
+/// other the first line that is none is reported. A line whose object or task the program doesn't
+/// have names no entry. `OutOfMemory` says nothing of the text.
 pub fn replay(
     alloc: Global,
     program: &Accepted,
     text: &HistoryText,
 ) -> Result<Replayed, ReplayError>
-    ensures { MatchResult result
-        (λ said. JudgedText program.now text.now (legal said.complete)) (SaysError program.now text.now) }
+    ensures { MatchResult result (λ said. JudgedText program.now text.now (legal said.complete))
+        (SaysError program.now text.now) }
 {
     let names = ProgramNames::new(alloc, program.program())?;
     let mut plain = Plain::start(alloc, program, text.cores, text.steps)?;

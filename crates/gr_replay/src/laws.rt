@@ -1,4 +1,4 @@
-//! Laws of what is said of history texts. These functions do nothing: their contracts are what they tell.
+//! The laws, each the contract of a function that does nothing.
 ghost use Rattle.gr_replay.specs.Laws.{JudgedOnce, LegalIsJudged, WrittenNames};
 
 /// A history text has one verdict.

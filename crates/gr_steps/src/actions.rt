@@ -126,7 +126,8 @@ pub fn spawn_action(
     target: &Name,
     args: &Exprs,
 ) -> Result<Action, AllocError>
-    ensures { IfOk result (λ action. action ≡ spawn_action_of table.now locals.now (way_of locals.now how.now) target.now args.now) }
+    ensures { IfOk result (λ action. action
+        ≡ spawn_action_of table.now locals.now (way_of locals.now how.now) target.now args.now) }
 {
     match how_of(locals, how) {
         None => Ok(divided()),
@@ -163,7 +164,8 @@ pub fn loop_action(
     target: &Name,
     args: &Exprs,
 ) -> Result<Action, AllocError>
-    ensures { IfOk result (λ action. action ≡ acted (loop_action_of table.now target.now) (ranged range (values locals.now args.now))) }
+    ensures { IfOk result (λ action. action
+        ≡ acted (loop_action_of table.now target.now) (ranged range (values locals.now args.now))) }
 {
     match range {
         None => Ok(divided()),

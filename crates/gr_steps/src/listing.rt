@@ -26,7 +26,8 @@ pub fn reaches_in(alloc: Global, items: &[Item]) -> Result<Vec<u64>, AllocError>
 }
 
 fn add_names<'a>(names: &mut Vec<&'a Text>, more: &'a Names) -> Result<(), AllocError>
-    ensures { OnOk result (map (λ n. n.now) names.new.items ≡ map (λ n. n.now) names.old.items ++ texts more.now) }
+    ensures { OnOk result (map (λ n. n.now) names.new.items
+        ≡ map (λ n. n.now) names.old.items ++ texts more.now) }
 {
     for name in more.as_slice() {
         names.push(&name.text)?;
@@ -37,7 +38,8 @@ fn add_names<'a>(names: &mut Vec<&'a Text>, more: &'a Names) -> Result<(), Alloc
 /// Adds the names that a statement gives with `let`, in the order of the text.
 #[cycle(lets)]
 fn add_lets<'a>(names: &mut Vec<&'a Text>, stmt: &'a Stmt) -> Result<(), AllocError>
-    ensures { OnOk result (map (λ n. n.now) names.new.items ≡ map (λ n. n.now) names.old.items ++ lets stmt.now) }
+    ensures { OnOk result (map (λ n. n.now) names.new.items
+        ≡ map (λ n. n.now) names.old.items ++ lets stmt.now) }
 {
     match stmt {
         Stmt::Set1 { fresh, targets, .. } => {
@@ -62,7 +64,8 @@ fn add_lets<'a>(names: &mut Vec<&'a Text>, stmt: &'a Stmt) -> Result<(), AllocEr
 /// Adds the names that a block gives with `let`, in the order of the text.
 #[cycle(lets)]
 fn add_block_lets<'a>(names: &mut Vec<&'a Text>, block: &'a [Stmt]) -> Result<(), AllocError>
-    ensures { OnOk result (map (λ n. n.now) names.new.items ≡ map (λ n. n.now) names.old.items ++ lets_of block.now) }
+    ensures { OnOk result (map (λ n. n.now) names.new.items
+        ≡ map (λ n. n.now) names.old.items ++ lets_of block.now) }
 {
     for stmt in block {
         add_lets(names, stmt)?;
@@ -76,7 +79,8 @@ fn locals_of<'a>(
     params: &'a Names,
     body: &'a [Stmt],
 ) -> Result<Vec<&'a Text>, AllocError>
-    ensures { IfOk result (λ names. map (λ n. n.now) names.items ≡ texts params.now ++ lets_of body.now) }
+    ensures { IfOk result (λ names. map (λ n. n.now) names.items
+        ≡ texts params.now ++ lets_of body.now) }
 {
     let mut names = Vec::new(alloc);
     add_names(&mut names, params)?;

@@ -101,7 +101,8 @@ impl<'a> Running<'a> {
 
     /// Puts a block before what is still to do.
     pub fn push_block(&mut self, block: &'a [Stmt]) -> Result<(), AllocError>
-        ensures { OnOk result (self.new ≡ record self.old { todo = runs block.now ++ self.old.todo }) }
+        ensures { OnOk result
+            (self.new ≡ record self.old { todo = runs block.now ++ self.old.todo }) }
     {
         let mut at = block.len();
         while at > 0 {
@@ -164,7 +165,8 @@ impl<'a> Running<'a> {
         targets: &Names,
         right: &Right,
     ) -> Result<Turn, AllocError>
-        ensures { IfOk result (λ turn. Turns may_move (look_set table.now self.old (tail_of self.old.todo) targets.now right.now) self.old turn self.new) }
+        ensures { IfOk result (λ turn. Turns may_move (look_set table.now self.old
+            (tail_of self.old.todo) targets.now right.now) self.old turn self.new) }
     {
         match right {
             Right::Value { value } => {
@@ -193,7 +195,8 @@ impl<'a> Running<'a> {
         one: &'a Block,
         other: &'a Block,
     ) -> Result<Turn, AllocError>
-        ensures { IfOk result (λ turn. Turns may_move (look_if self.old (tail_of self.old.todo) test.now one.now other.now) self.old turn self.new) }
+        ensures { IfOk result (λ turn. Turns may_move (look_if self.old
+            (tail_of self.old.todo) test.now one.now other.now) self.old turn self.new) }
     {
         if !may_move {
             return Ok(Turn::Limit);
@@ -218,7 +221,8 @@ impl<'a> Running<'a> {
         test: &Expr,
         body: &'a Block,
     ) -> Result<Turn, AllocError>
-        ensures { IfOk result (λ turn. Turns may_move (look_while self.old (tail_of self.old.todo) test.now body.now) self.old turn self.new) }
+        ensures { IfOk result (λ turn. Turns may_move (look_while self.old
+            (tail_of self.old.todo) test.now body.now) self.old turn self.new) }
     {
         if !may_move {
             return Ok(Turn::Limit);
@@ -239,7 +243,8 @@ impl<'a> Running<'a> {
     /// One pure step, where it may be made, or the next action.
     #[tactic(auto, unfolding(gr_lang::specs::Next::look), using(gr_lang::proofs::Opens::opens))]
     fn turn(&mut self, alloc: Global, table: &Table, may_move: bool) -> Result<Turn, AllocError>
-        ensures { IfOk result (λ turn. Turns may_move (look table.now self.old) self.old turn self.new) }
+        ensures { IfOk result (λ turn. Turns may_move
+            (look table.now self.old) self.old turn self.new) }
     {
         match self.top() {
             Top::End => Ok(Turn::Acts {
@@ -327,7 +332,10 @@ impl<'a> Running<'a> {
 
     /// Enters a `finish`.
     fn open(&mut self, body: &'a Block) -> Result<(), AllocError>
-        ensures { OnOk result (self.new ≡ record self.old { todo = runs body.now ++ (arrive ∷ tail_of self.old.todo) }) }
+        ensures { OnOk result (self.new ≡ record self.old {
+          todo = runs body.now ++
+              (arrive ∷ tail_of self.old.todo);
+        }) }
     {
         self.drop_top();
         self.push_arrive()?;

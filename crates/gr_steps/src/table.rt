@@ -83,7 +83,8 @@ impl<'a> Table<'a> {
 
     /// The task of that number.
     pub fn task(&self, target: u64) -> Option<&TaskRow<'a>>
-        ensures { option_map (λ r. row_of r.now) result ≡ slice_get (knowns_of (tasks_of self.now.items)) target }
+        ensures { option_map (λ r. row_of r.now) result
+            ≡ slice_get (knowns_of (tasks_of self.now.items)) target }
     {
         self.tasks.get(target as usize)
     }

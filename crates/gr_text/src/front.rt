@@ -12,7 +12,7 @@ use crate::token::{Sign, TokenKind};
 use gr_syntax::MAX_NAME;
 
 /// What stands at the front of a text that isn't empty.
-#[derive(Clone, Copy, Debug, PartialEq, Eq)]
+#[derive(Clone, Copy)]
 pub enum Front {
     /// This many bytes of white space, or of a comment.
     Blank { length: usize },
@@ -112,7 +112,8 @@ fn blank_len(text: &[u8]) -> usize
 /// The number with one more digit behind it, unless it is too wide.
 fn shifted(n: u64, digit: u8) -> Option<u64>
     requires { is_digit digit ≡ true }
-    ensures { MatchOption result (2 ^ 64 ≤ n * 10 + digit_value digit) (λ m. m ≡ n * 10 + digit_value digit) }
+    ensures { MatchOption result
+        (2 ^ 64 ≤ n * 10 + digit_value digit) (λ m. m ≡ n * 10 + digit_value digit) }
 {
     match n.checked_mul(10) {
         Some(tens) => tens.checked_add(u64::from(digit - b'0')),
@@ -123,7 +124,8 @@ fn shifted(n: u64, digit: u8) -> Option<u64>
 /// The number that the digits write, unless it is too wide.
 fn value(digits: &[u8]) -> Option<u64>
     requires { list_all is_digit digits.now ≡ true }
-    ensures { MatchOption result (2 ^ 64 ≤ digits_value 10 digits.now) (λ n. n ≡ digits_value 10 digits.now) }
+    ensures { MatchOption result
+        (2 ^ 64 ≤ digits_value 10 digits.now) (λ n. n ≡ digits_value 10 digits.now) }
 {
     let mut n: u64 = 0;
     'each: for digit in digits {

@@ -72,7 +72,8 @@ impl Sign {
 
 /// The keyword that a text writes so.
 pub fn keyword(word: &[u8]) -> Option<Keyword>
-    ensures { MatchOption result ((k : Keyword) → word.now ≢ keyword_bytes k) (λ k. word.now ≡ keyword_bytes k) }
+    ensures { MatchOption result
+        ((k : Keyword) → word.now ≢ keyword_bytes k) (λ k. word.now ≡ keyword_bytes k) }
 {
     let keywords = [
         Keyword::Array,

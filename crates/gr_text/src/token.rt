@@ -6,7 +6,7 @@ use std::alloc::{AllocError, Global};
 use std::marker::Model;
 
 /// A word of the language, which can't be a name.
-#[derive(Clone, Copy, Debug, PartialEq, Eq)]
+#[derive(Clone, Copy, PartialEq, Eq)]
 pub enum Keyword {
     Array,
     Set,
@@ -30,7 +30,7 @@ pub enum Keyword {
 }
 
 /// A sign of the language.
-#[derive(Clone, Copy, Debug, PartialEq, Eq)]
+#[derive(Clone, Copy, PartialEq, Eq)]
 pub enum Sign {
     /// `(`
     LeftParen,
@@ -87,7 +87,7 @@ pub enum Sign {
 }
 
 /// What a token is, with a number's value.
-#[derive(Clone, Copy, Debug, PartialEq, Eq)]
+#[derive(Clone, Copy, PartialEq, Eq)]
 pub enum TokenKind {
     /// A name, which is the bytes of the token's span.
     Name,
@@ -103,7 +103,7 @@ pub enum TokenKind {
 
 /// A token: its kind, the place in bytes where it starts and the one behind its last byte, and the line
 /// and column of its start.
-#[derive(Clone, Copy, Debug, PartialEq, Eq)]
+#[derive(Clone, Copy, PartialEq, Eq)]
 pub struct Token {
     pub kind: TokenKind,
     pub from: u64,
@@ -112,7 +112,7 @@ pub struct Token {
 }
 
 /// A list of tokens.
-#[derive(Debug, Drop)]
+#[derive(Drop)]
 pub struct Tokens {
     items: Vec<Token>,
 }

@@ -1,9 +1,7 @@
 -- What a straight main alone does next, and what is left after it.
-use Rattle.std.proofs.Common.{◌≡◌, ℕ, ◌+◌, ◌<◌, List, true, false, Some, refl, ap, ◌∙◌, arith, rules, length, subst}
+use Rattle.std.proofs.Common.{◌≡◌, ℕ, ◌+◌, ◌<◌, true, false, Some, refl, ap, ◌∙◌, arith, rules, length, subst}
 use Rattle.std.specs.Prelude.{◌==◌}
 use Rattle.std.specs.Option.{option_map_or}
-use Rattle.std.specs.Str.{bytes_eq}
-use Rattle.std.proofs.lemmas.Slice.Eq.{bytes_eq-Decides}
 use Rattle.std.specs.FinMap as fin
 use Rattle.gr_syntax.specs.declared.syntax.Program.{Program}
 use Rattle.gr_lang.specs.declared.action.Action.TheVariants as a
@@ -33,7 +31,6 @@ left_of_main S t h = ap (λ o. option_map_or task_left o 0) (found_main S t h)
 -- Another task in the place of main is again alone.
 tasks_after : (S : State) (t u : Task) → IsAlone S t → fin.insert S.tasks main_id u ≡ fin.insert fin.empty main_id u
 tasks_after S t u h = rw h.tasks (put_twice fin.empty main_id t u)
-
 
 same_number : (n : ℕ) → (n == n) ≡ true
 same_number n = search rules

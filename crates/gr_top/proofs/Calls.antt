@@ -1,37 +1,33 @@
 -- What the call tells, from the answer that was made and what came of it.
-use Rattle.std.proofs.Common.{◌≡◌, ◌≢◌, ℕ, ◌<◌, ◌≤◌, ◌^◌, List, Bool, true, false, Option, Some, None, refl, sym, ap, ◌∙◌, subst, arith, length, is_some, ◌⊎◌, inl, inr}
-use Rattle.std.specs.Prelude.{IfSome, ◌++◌, [], String, if◌then◌else◌}
+use Rattle.std.proofs.Common.{◌≡◌, ◌≢◌, ℕ, ◌<◌, ◌≤◌, List, Bool, true, Option, Some, None, sym, ap, ◌∙◌, subst, arith, length, is_some, ◌⊎◌, inl, inr}
+use Rattle.std.specs.Prelude.{IfSome, ◌++◌, String}
 use Rattle.std.specs.declared.alloc.Global.{Global}
 use Rattle.std.specs.Io.KnownBytes.{Appends}
 use Rattle.gr_syntax.specs.declared.syntax.Program.{Program}
 use Rattle.gr_syntax.specs.declared.refusal.Kind.{Kind}
 use Rattle.gr_syntax.specs.declared.refusal.Fault.{Fault}
-use Rattle.gr_lang.specs.declared.action.Entry.{Entry}
 use Rattle.gr_syntax.specs.Faults.{fault}
 use Rattle.gr_lang.specs.Histories.{legal, complete}
 use Rattle.gr_cli.specs.declared.settings.Options.{Options}
-use Rattle.gr_cli.specs.declared.settings.Command.{Command}
-use Rattle.gr_cli.specs.declared.settings.Command.TheVariants.{Run, Check, Replay, Bench}
-use Rattle.gr_hist.specs.declared.text.HistoryText.{HistoryText}
+use Rattle.gr_cli.specs.declared.settings.Command.TheVariants.{Run, Check, Replay}
 use Rattle.gr_replay.specs.Division.{program_part, history_part}
 use Rattle.gr_replay.specs.Judged.{Verdict, Judged}
 use Rattle.gr_replay.specs.Judged as verdict
-use Rattle.gr_top.specs.Commands.{asked, is_on_text, is_replay, is_read, limit_of, is_run}
-use Rattle.gr_top.specs.Due.{Reading, accepted, refused, Replayed, unread, bad_line, judged, Due, due_usage, due_too_long, due_read, due_refused, due_accepted, due_run, due_of_run, due_trapped, due_replayed, due_judged, told, followed, not_built, status_of, Came}
-use Rattle.gr_top.specs.Readings.{ReadsAs, ReplaysAs, IsDue, Answered, IsRunOf, IsWorldOf, Refusing}
-use Rattle.gr_top.specs.Texts.{usage_text, too_long_text, prints, first_trap}
+use Rattle.gr_top.specs.Commands.{asked, is_on_text, limit_of, is_run}
+use Rattle.gr_top.specs.Due.{accepted, refused, bad_line, judged, Due, told, status_of, Came}
+use Rattle.gr_top.specs.Readings.{ReadsAs, ReplaysAs, IsDue, Answered, IsWorldOf, Refusing}
+use Rattle.gr_top.specs.Texts.{prints}
 use Rattle.gr_top.specs.AnswerView.{made}
 use Rattle.gr_top.specs.declared.answer.Answer.{Answer}
 use Rattle.gr_top.specs.declared.answer.Refusal.{Refusal}
 use Rattle.gr_top.specs.declared.answer.Refusal.TheVariants as r
 use Rattle.gr_top.specs.declared.answer.WorldEnd.{WorldEnd}
-use Rattle.gr_top.specs.declared.texts.TrapAt.{TrapAt}
 use Rattle.gr_hist.specs.Grammar.{ReadsOnce}
 use Rattle.gr_replay.specs.Laws.{JudgedOnce}
 use Rattle.gr_top.proofs.Dues.{answered, own}
-use Rattle.gr_top.proofs.Told.{IsRunStatus, usage_told, too_long_told, refused_told, entry_told, line_told}
+use Rattle.gr_top.proofs.Told.{usage_told, too_long_told, refused_told, entry_told, line_told}
 use Rattle.gr_top.proofs.Exact.{due_check, due_run_status, due_refusal, due_legal}
-use Rattle.gr_top.proofs.Headline.{Ended, headline}
+use Rattle.gr_top.proofs.Headline.{headline}
 
 -- A status that isn't 5 is no fault of the sink.
 no_fault : (refusal : Refusal) (n : ℕ) → status_of refusal ≡ n → n ≢ 5 → (written : ℕ) → refusal ≢ r.WriteFault written

@@ -1,31 +1,22 @@
 -- The answer due, from what the parts of the call made, and what came of it.
-use Rattle.std.proofs.Common.{◌≡◌, ◌≢◌, ℕ, ◌<◌, ◌≤◌, ◌^◌, List, Bool, true, false, Option, Some, None, refl, sym, ap, ◌∙◌, subst, arith, length, is_some, ◌⊎◌, inl, inr}
-use Rattle.std.specs.Prelude.{IfSome, ◌++◌, [], String, if◌then◌else◌}
+use Rattle.std.proofs.Common.{◌≡◌, ◌≢◌, ℕ, ◌<◌, ◌≤◌, List, true, false, Option, Some, None, refl, sym, ap, subst, length, is_some}
+use Rattle.std.specs.Prelude.{IfSome, String}
 use Rattle.std.specs.declared.alloc.Global.{Global}
 use Rattle.std.specs.Io.KnownBytes.{Appends}
 use Rattle.gr_syntax.specs.declared.syntax.Program.{Program}
-use Rattle.gr_syntax.specs.declared.refusal.Kind.{Kind}
-use Rattle.gr_syntax.specs.declared.refusal.Fault.{Fault}
-use Rattle.gr_lang.specs.declared.action.Entry.{Entry}
-use Rattle.gr_syntax.specs.Faults.{fault}
-use Rattle.gr_lang.specs.Histories.{legal, complete}
 use Rattle.gr_cli.specs.declared.settings.Options.{Options}
 use Rattle.gr_cli.specs.declared.settings.Command.{Command}
 use Rattle.gr_cli.specs.declared.settings.Command.TheVariants.{Run, Check, Replay, Bench}
-use Rattle.gr_hist.specs.declared.text.HistoryText.{HistoryText}
 use Rattle.gr_replay.specs.Division.{program_part, history_part}
-use Rattle.gr_replay.specs.Judged.{Verdict, Judged}
-use Rattle.gr_replay.specs.Judged as verdict
-use Rattle.gr_top.specs.Commands.{asked, is_on_text, is_replay, is_read, limit_of, is_run}
-use Rattle.gr_top.specs.Due.{Reading, accepted, refused, Replayed, unread, bad_line, judged, Due, due_usage, due_too_long, due_read, due_refused, due_accepted, due_run, due_of_run, due_trapped, due_replayed, due_judged, told, followed, not_built, status_of, Came}
-use Rattle.gr_top.specs.Readings.{ReadsAs, ReplaysAs, IsDue, Answered, IsRunOf, IsWorldOf, Refusing}
-use Rattle.gr_top.specs.Texts.{usage_text, too_long_text, prints, first_trap}
+use Rattle.gr_top.specs.Commands.{asked, is_on_text, is_replay, is_read, limit_of}
+use Rattle.gr_top.specs.Due.{Reading, accepted, Replayed, Due, due_usage, due_too_long, due_read, due_refused, due_replayed, not_built, Came}
+use Rattle.gr_top.specs.Readings.{ReadsAs, ReplaysAs, IsDue, Answered, IsRunOf, IsWorldOf}
+use Rattle.gr_top.specs.Texts.{usage_text, too_long_text}
 use Rattle.gr_top.specs.AnswerView.{made}
 use Rattle.gr_top.specs.declared.answer.Answer.{Answer}
 use Rattle.gr_top.specs.declared.answer.Refusal.{Refusal}
 use Rattle.gr_top.specs.declared.answer.Refusal.TheVariants as r
 use Rattle.gr_top.specs.declared.answer.WorldEnd.{WorldEnd}
-use Rattle.gr_top.specs.declared.texts.TrapAt.{TrapAt}
 
 pub if_some : {A : Type 0} {P : A → Type 0} (o : Option A) → ((a : A) → o ≡ Some a → P a) → IfSome o P
 if_some None h = tt

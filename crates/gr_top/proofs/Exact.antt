@@ -1,14 +1,9 @@
 -- One answer is due, and which one for an accepted text, a refused one and a legal history.
-use Rattle.std.proofs.Common.{◌≡◌, ◌≢◌, ℕ, ◌<◌, ◌≤◌, ◌^◌, List, Bool, true, false, Option, Some, None, refl, sym, ap, ◌∙◌, subst, arith, length, is_some, ◌⊎◌, inl, inr}
-use Rattle.std.specs.Prelude.{IfSome, ◌++◌, [], String, if◌then◌else◌}
+use Rattle.std.proofs.Common.{◌≡◌, ℕ, ◌≤◌, List, Bool, true, false, Option, Some, None, refl, sym, ap, ◌∙◌, subst, arith, length}
+use Rattle.std.specs.Prelude.{String, if◌then◌else◌}
 use Rattle.std.specs.declared.alloc.Global.{Global}
-use Rattle.std.specs.Io.KnownBytes.{Appends}
 use Rattle.gr_syntax.specs.declared.syntax.Program.{Program}
-use Rattle.gr_syntax.specs.declared.refusal.Kind.{Kind}
 use Rattle.gr_syntax.specs.declared.refusal.Fault.{Fault}
-use Rattle.gr_lang.specs.declared.action.Entry.{Entry}
-use Rattle.gr_syntax.specs.Faults.{fault}
-use Rattle.gr_lang.specs.Histories.{legal, complete}
 use Rattle.gr_cli.specs.declared.settings.Options.{Options}
 use Rattle.gr_cli.specs.declared.settings.Command.{Command}
 use Rattle.gr_cli.specs.declared.settings.Command.TheVariants.{Run, Check, Replay, Bench}
@@ -17,16 +12,10 @@ use Rattle.gr_replay.specs.Division.{program_part, history_part}
 use Rattle.gr_replay.specs.Judged.{Verdict, Judged}
 use Rattle.gr_replay.specs.Judged as verdict
 use Rattle.gr_top.specs.Commands.{asked, is_on_text, is_replay, is_read, limit_of, is_run}
-use Rattle.gr_top.specs.Due.{Reading, accepted, refused, Replayed, unread, bad_line, judged, Due, due_usage, due_too_long, due_read, due_refused, due_accepted, due_run, due_of_run, due_trapped, due_replayed, due_judged, told, followed, not_built, status_of, Came}
-use Rattle.gr_top.specs.Readings.{ReadsAs, ReplaysAs, IsDue, Answered, IsRunOf, IsWorldOf, Refusing}
-use Rattle.gr_top.specs.Texts.{usage_text, too_long_text, prints, first_trap}
-use Rattle.gr_top.specs.AnswerView.{made}
-use Rattle.gr_top.specs.declared.answer.Answer.{Answer}
-use Rattle.gr_top.specs.declared.answer.Refusal.{Refusal}
-use Rattle.gr_top.specs.declared.answer.Refusal.TheVariants as r
+use Rattle.gr_top.specs.Due.{Reading, accepted, refused, Replayed, unread, bad_line, judged, Due, due_read, due_refused, due_accepted, due_run, due_replayed, due_judged, not_built, status_of}
+use Rattle.gr_top.specs.Readings.{ReadsAs, ReplaysAs, IsDue}
 use Rattle.gr_top.specs.declared.answer.WorldEnd.{WorldEnd}
-use Rattle.gr_top.specs.declared.texts.TrapAt.{TrapAt}
-use Rattle.gr_hist.specs.Grammar.{ReadsOnce, ReadsText}
+use Rattle.gr_hist.specs.Grammar.{ReadsOnce}
 use Rattle.gr_replay.specs.Laws.{JudgedOnce}
 use Rattle.std.proofs.Common.{Ok, Err}
 use Rattle.gr_top.proofs.Once.{once}
@@ -152,8 +141,8 @@ module _ (lines_once : ReadsOnce) (judges_once : JudgedOnce) where
       → IsDue words bytes world d → length bytes ≤ limit_of o.command → ReadsAs bytes (accepted p) → asked words ≡ Some o → o.command ≡ Run → is_run o p ≡ true → IsRunStatus d
   due_run_status words bytes world d o p h few reads some c built =
       let e : due_run o p world ≡ Some d =
-          sym (ap (λ (b : Bool). if b then due_run o p world else Some (due_refused not_built)) built) ∙ sym (ap (λ (x : Command). due_accepted x o p world) c)
-          ∙ due_of_reading words bytes world d o (accepted p) h few reads some (on_text o.command Run c refl) in
+      sym (ap (λ (b : Bool). if b then due_run o p world else Some (due_refused not_built)) built) ∙ sym (ap (λ (x : Command). due_accepted x o p world) c)
+      ∙ due_of_reading words bytes world d o (accepted p) h few reads some (on_text o.command Run c refl) in
       told_of IsRunStatus (due_run o p world) d e (run_status o p world)
 
   -- A refused text is refused.

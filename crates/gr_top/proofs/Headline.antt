@@ -1,30 +1,17 @@
 -- A run that ended well: its history is legal and complete, and its prints are due.
-use Rattle.std.proofs.Common.{◌≡◌, ◌≢◌, ℕ, ◌<◌, ◌≤◌, ◌^◌, List, Bool, true, false, Option, Some, None, refl, sym, ap, ◌∙◌, subst, arith, length, is_some, ◌⊎◌, inl, inr}
-use Rattle.std.specs.Prelude.{IfSome, ◌++◌, [], String, if◌then◌else◌}
+use Rattle.std.proofs.Common.{◌≡◌, ℕ, List, Bool, true, false, Option, Some, None, refl, sym, ap, ◌∙◌, subst, arith, is_some}
+use Rattle.std.specs.Prelude.{◌++◌, [], String, if◌then◌else◌}
 use Rattle.std.specs.declared.alloc.Global.{Global}
 use Rattle.std.specs.Option.{option_map}
-use Rattle.std.specs.Io.KnownBytes.{Appends}
 use Rattle.gr_syntax.specs.declared.syntax.Program.{Program}
-use Rattle.gr_syntax.specs.declared.refusal.Kind.{Kind}
-use Rattle.gr_syntax.specs.declared.refusal.Fault.{Fault}
-use Rattle.gr_lang.specs.declared.action.Entry.{Entry}
-use Rattle.gr_syntax.specs.Faults.{fault}
 use Rattle.gr_lang.specs.Histories.{legal, complete}
 use Rattle.gr_cli.specs.declared.settings.Options.{Options}
 use Rattle.gr_cli.specs.declared.settings.Command.{Command}
-use Rattle.gr_cli.specs.declared.settings.Command.TheVariants.{Run, Check, Replay, Bench}
-use Rattle.gr_hist.specs.declared.text.HistoryText.{HistoryText}
-use Rattle.gr_replay.specs.Division.{program_part, history_part}
-use Rattle.gr_replay.specs.Judged.{Verdict, Judged}
-use Rattle.gr_replay.specs.Judged as verdict
-use Rattle.gr_top.specs.Commands.{asked, is_on_text, is_replay, is_read, limit_of, is_run}
-use Rattle.gr_top.specs.Due.{Reading, accepted, refused, Replayed, unread, bad_line, judged, Due, due_usage, due_too_long, due_read, due_refused, due_accepted, due_run, due_of_run, due_trapped, due_replayed, due_judged, told, followed, not_built, status_of, Came}
-use Rattle.gr_top.specs.Readings.{ReadsAs, ReplaysAs, IsDue, Answered, IsRunOf, IsWorldOf, Refusing}
-use Rattle.gr_top.specs.Texts.{usage_text, too_long_text, prints, first_trap}
-use Rattle.gr_top.specs.AnswerView.{made}
-use Rattle.gr_top.specs.declared.answer.Answer.{Answer}
-use Rattle.gr_top.specs.declared.answer.Refusal.{Refusal}
-use Rattle.gr_top.specs.declared.answer.Refusal.TheVariants as r
+use Rattle.gr_cli.specs.declared.settings.Command.TheVariants.{Run}
+use Rattle.gr_top.specs.Commands.{asked, is_replay, is_run}
+use Rattle.gr_top.specs.Due.{Reading, accepted, refused, Due, due_read, due_refused, due_accepted, due_run, due_of_run, due_trapped, told, followed, not_built, status_of}
+use Rattle.gr_top.specs.Readings.{ReadsAs, IsDue, IsRunOf, IsWorldOf}
+use Rattle.gr_top.specs.Texts.{prints, first_trap}
 use Rattle.gr_top.specs.declared.answer.WorldEnd.{WorldEnd}
 use Rattle.gr_top.specs.declared.texts.TrapAt.{TrapAt}
 use Rattle.gr_top.proofs.Once.{once}
@@ -87,7 +74,7 @@ pub headline : (words : List (String Global)) (bytes : List ℕ) (world : Option
 headline words bytes world _ o (IsDue.usage none) some c h ran s = absurd (some_options words o some none)
 headline words bytes world _ o (IsDue.bench q also none) some c h ran s = absurd (omega (arith, s))
 headline words bytes world _ o (IsDue.too_long q also reads more) some c h ran s = absurd (omega (arith, s))
-headline words bytes world _ o (IsDue.read {reading} {d} q also on few reads e) some c h ran s =
+headline words bytes world _ o (IsDue.read {reading} {due = d} q also on few reads e) some c h ran s =
     read_ended words o bytes reading world d some c reads h (ap (λ (x : Options). due_read x reading world) (same_options words o q some also) ∙ e) s
 headline words bytes world _ o (IsDue.replayed {r = found} q also on few reads) some c h ran s =
     let k : is_replay Run ≡ true = ap is_replay (sym c) ∙ ap (λ (x : Options). is_replay x.command) (same_options words o q some also) ∙ on in cc

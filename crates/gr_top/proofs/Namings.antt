@@ -1,5 +1,5 @@
 -- The objects and tasks of a program that a text is read as have names of the language, and none of the objects is named `heap`.
-use Rattle.std.proofs.Common.{◌≡◌, ℕ, ◌<◌, ◌≤◌, ◌-◌, Bool, true, false, ◌||◌, List, [], ◌∷◌, ◌++◌, length, length-append, drop, All, map, refl, sym, ap, subst, ◌∙◌, arith, codes, Ok, Err}
+use Rattle.std.proofs.Common.{◌≡◌, ℕ, ◌-◌, Bool, true, false, List, [], ◌∷◌, ◌++◌, length, length-append, drop, All, map, refl, sym, ap, subst, ◌∙◌, arith, codes, Ok}
 use Rattle.std.specs.Prelude.{slice_range}
 use Rattle.std.specs.Str.{bytes_eq}
 use Rattle.std.proofs.lemmas.List.{length-drop, length-take-le}
@@ -21,10 +21,10 @@ use Rattle.gr_text.specs.declared.token.TokenKind.TheVariants as kind
 use Rattle.gr_text.proofs.Named.{named_token}
 use Rattle.gr_text.proofs.Well.{well}
 use Rattle.gr_parse.specs.Tok.{Tok, tok_of, tok_of_kind, tok_of_word, toks, Toks}
-use Rattle.gr_parse.specs.Grammar.{IsItem, IsProgram, IsProgramOf}
+use Rattle.gr_parse.specs.Grammar.{IsItem, IsProgramOf}
 use Rattle.gr_parse.proofs.Whole.{Cut, cut}
 use Rattle.gr_hist.specs.Naming.{IsNamed}
-use Rattle.gr_top.specs.Due.{Reading, accepted, refused}
+use Rattle.gr_top.specs.Due.{Reading, accepted}
 use Rattle.gr_top.specs.Readings.{ReadsAs}
 
 -- ---- tokens

@@ -1,5 +1,5 @@
 -- What is written of a run is judged as its history is.
-use Rattle.std.proofs.Common.{◌≡◌, ◌∙◌, ℕ, List, Bool, true, false, Option, Some, None, map, refl, sym, ap, subst, Ok}
+use Rattle.std.proofs.Common.{◌≡◌, ◌∙◌, ℕ, List, Bool, true, false, Option, Some, None, map, sym, ap, subst}
 use Rattle.std.specs.Prelude.{IfSome, String}
 use Rattle.std.specs.declared.alloc.Global.{Global}
 use Rattle.std.specs.Option.{option_map_or}
@@ -11,7 +11,6 @@ use Rattle.gr_lang.specs.States.{State, opening_state}
 use Rattle.gr_cli.specs.Options.{IsWithinLimits}
 use Rattle.gr_cli.specs.declared.settings.Options.{Options}
 use Rattle.gr_cli.proofs.Limits.{options_are_within}
-use Rattle.gr_hist.specs.Grammar.{ReadsText}
 use Rattle.gr_hist.specs.Naming.{IsNamed, history_text, named, named_history}
 use Rattle.gr_hist.specs.Grammar.{IsHeader}
 use Rattle.gr_hist.proofs.Namables.{final_of, legal_namable}

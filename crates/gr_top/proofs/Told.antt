@@ -1,29 +1,24 @@
 -- What a refusal tells of the words, the source and what it reads as.
-use Rattle.std.proofs.Common.{◌≡◌, ◌≢◌, ℕ, ◌<◌, ◌≤◌, ◌^◌, List, Bool, true, false, Option, Some, None, refl, sym, ap, ◌∙◌, subst, arith, length, is_some, ◌⊎◌, inl, inr}
-use Rattle.std.specs.Prelude.{IfSome, ◌++◌, [], String, if◌then◌else◌}
+use Rattle.std.proofs.Common.{◌≡◌, ◌≢◌, ℕ, ◌<◌, List, Bool, true, false, Option, Some, None, refl, sym, ap, ◌∙◌, subst, arith, length, ◌⊎◌, inl, inr}
+use Rattle.std.specs.Prelude.{IfSome, String, if◌then◌else◌}
 use Rattle.std.specs.declared.alloc.Global.{Global}
 use Rattle.std.specs.Option.{option_map}
-use Rattle.std.specs.Io.KnownBytes.{Appends}
 use Rattle.gr_syntax.specs.declared.syntax.Program.{Program}
 use Rattle.gr_syntax.specs.declared.refusal.Kind.{Kind}
 use Rattle.gr_syntax.specs.declared.refusal.Fault.{Fault}
 use Rattle.gr_lang.specs.declared.action.Entry.{Entry}
 use Rattle.gr_syntax.specs.Faults.{fault}
-use Rattle.gr_lang.specs.Histories.{legal, complete}
+use Rattle.gr_lang.specs.Histories.{complete}
 use Rattle.gr_cli.specs.declared.settings.Options.{Options}
 use Rattle.gr_cli.specs.declared.settings.Command.{Command}
 use Rattle.gr_cli.specs.declared.settings.Command.TheVariants.{Run, Check, Replay, Bench}
-use Rattle.gr_hist.specs.declared.text.HistoryText.{HistoryText}
 use Rattle.gr_replay.specs.Division.{program_part, history_part}
 use Rattle.gr_replay.specs.Judged.{Verdict, Judged}
 use Rattle.gr_replay.specs.Judged as verdict
 use Rattle.gr_top.specs.Commands.{asked, is_on_text, is_replay, is_read, limit_of, is_run}
-use Rattle.gr_top.specs.Due.{Reading, accepted, refused, Replayed, unread, bad_line, judged, Due, due_usage, due_too_long, due_read, due_refused, due_accepted, due_run, due_of_run, due_trapped, due_replayed, due_judged, told, followed, not_built, status_of, Came}
-use Rattle.gr_top.specs.Readings.{ReadsAs, ReplaysAs, IsDue, Answered, IsRunOf, IsWorldOf, Refusing}
-use Rattle.gr_top.specs.Texts.{usage_text, too_long_text, prints, first_trap}
-use Rattle.gr_top.specs.AnswerView.{made}
-use Rattle.gr_top.specs.declared.answer.Answer.{Answer}
-use Rattle.gr_top.specs.declared.answer.Refusal.{Refusal}
+use Rattle.gr_top.specs.Due.{Reading, accepted, refused, Replayed, unread, bad_line, judged, Due, due_read, due_refused, due_accepted, due_run, due_of_run, due_trapped, due_replayed, due_judged, followed, not_built, status_of}
+use Rattle.gr_top.specs.Readings.{ReadsAs, ReplaysAs, IsDue, Refusing}
+use Rattle.gr_top.specs.Texts.{first_trap}
 use Rattle.gr_top.specs.declared.answer.Refusal.TheVariants as r
 use Rattle.gr_top.specs.declared.answer.WorldEnd.{WorldEnd}
 use Rattle.gr_top.specs.declared.texts.TrapAt.{TrapAt}
@@ -108,7 +103,7 @@ pub usage_told : (words : List (String Global)) (bytes : List ℕ) (world : Opti
 usage_told words bytes world _ (IsDue.usage h) e = h
 usage_told words bytes world _ (IsDue.bench o some none) e = cc
 usage_told words bytes world _ (IsDue.too_long o some reads more) e = cc
-usage_told words bytes world _ (IsDue.read {reading} {d} o some on few h k) e =
+usage_told words bytes world _ (IsDue.read {reading} {due = d} o some on few h k) e =
     absurd (not_read o reading world d k 2 (ap status_of e) (λ k. omega (arith, k)) (λ k. omega (arith, k)) (λ k. omega (arith, k)))
 usage_told words bytes world _ (IsDue.replayed {r = found} o some on few h) e =
     absurd (not_replayed found 2 (ap status_of e) (λ k. omega (arith, k)) (λ k. omega (arith, k)) (λ k. omega (arith, k)) (λ k. omega (arith, k)))
@@ -119,7 +114,7 @@ pub too_long_told : (words : List (String Global)) (bytes : List ℕ) (world : O
 too_long_told words bytes world _ (IsDue.usage h) e = cc
 too_long_told words bytes world _ (IsDue.bench o some none) e = cc
 too_long_told words bytes world _ (IsDue.too_long o some reads more) e = subst (λ (x : Option Options). IfSome x (λ o. limit_of o.command < length bytes)) (sym some) more
-too_long_told words bytes world _ (IsDue.read {reading} {d} o some on few h k) e =
+too_long_told words bytes world _ (IsDue.read {reading} {due = d} o some on few h k) e =
     absurd (not_read o reading world d k 8 (ap status_of e) (λ k. omega (arith, k)) (λ k. omega (arith, k)) (λ k. omega (arith, k)))
 too_long_told words bytes world _ (IsDue.replayed {r = found} o some on few h) e =
     absurd (not_replayed found 8 (ap status_of e) (λ k. omega (arith, k)) (λ k. omega (arith, k)) (λ k. omega (arith, k)) (λ k. omega (arith, k)))
@@ -188,7 +183,7 @@ refused_told words bytes world _ (IsDue.usage h) = λ kind line column e. cc
 refused_told words bytes world _ (IsDue.bench o some none) =
     with_options (asked words) o bytes (due_refused not_built) some (fault_told (Some o) bytes not_built (Refusing.of_bench (is_bench o.command none)))
 refused_told words bytes world _ (IsDue.too_long o some reads more) = λ kind line column e. cc
-refused_told words bytes world _ (IsDue.read {reading} {d} o some on few h k) =
+refused_told words bytes world _ (IsDue.read {reading} {due = d} o some on few h k) =
     with_options (asked words) o bytes d some (told_of (Refused1 (Some o) bytes) (due_read o reading world) d k (read_told bytes world o reading on h))
 refused_told words bytes world _ (IsDue.replayed {r = found} o some on few h) = with_options (asked words) o bytes (due_replayed found) some (replay_told bytes o found on h)
 
@@ -216,7 +211,7 @@ pub entry_told : (words : List (String Global)) (bytes : List ℕ) (world : Opti
 entry_told words bytes world _ (IsDue.usage h) entry e = cc
 entry_told words bytes world _ (IsDue.bench o some none) entry e = cc
 entry_told words bytes world _ (IsDue.too_long o some reads more) entry e = cc
-entry_told words bytes world _ (IsDue.read {reading} {d} o some on few h k) entry e =
+entry_told words bytes world _ (IsDue.read {reading} {due = d} o some on few h k) entry e =
     absurd (not_read o reading world d k 9 (ap status_of e) (λ k. omega (arith, k)) (λ k. omega (arith, k)) (λ k. omega (arith, k)))
 entry_told words bytes world _ (IsDue.replayed {r = found} o some on few h) entry e = subst (ReplaysAs (program_part bytes) (history_part bytes)) (found_entry found entry e) h
 
@@ -225,6 +220,6 @@ pub line_told : (words : List (String Global)) (bytes : List ℕ) (world : Optio
 line_told words bytes world _ (IsDue.usage h) line e = cc
 line_told words bytes world _ (IsDue.bench o some none) line e = cc
 line_told words bytes world _ (IsDue.too_long o some reads more) line e = cc
-line_told words bytes world _ (IsDue.read {reading} {d} o some on few h k) line e =
+line_told words bytes world _ (IsDue.read {reading} {due = d} o some on few h k) line e =
     absurd (not_read o reading world d k 10 (ap status_of e) (λ k. omega (arith, k)) (λ k. omega (arith, k)) (λ k. omega (arith, k)))
 line_told words bytes world _ (IsDue.replayed {r = found} o some on few h) line e = subst (ReplaysAs (program_part bytes) (history_part bytes)) (found_line found line e) h

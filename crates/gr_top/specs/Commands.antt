@@ -1,7 +1,8 @@
 -- What the words ask for, and how much of the source that takes.
-use Rattle.std.specs.Prelude.{◌≡◌, ℕ, ◌^◌, ◌==◌, Bool, true, false, not, ◌&&◌, List, map, Option, None, Some, String, string_bytes}
+use Rattle.std.specs.Prelude.{◌≡◌, ℕ, ◌==◌, Bool, true, false, not, ◌&&◌, List, map, Option, None, Some, String, string_bytes}
 use Rattle.std.specs.declared.alloc.Global.{Global}
 use Rattle.gr_syntax.specs.declared.syntax.Program.{Program}
+use Rattle.gr_cli.specs.declared.numbers.TheConstants.{EVENTS}
 use Rattle.gr_cli.specs.declared.settings.Options.{Options}
 use Rattle.gr_cli.specs.declared.settings.Command.{Command}
 use Rattle.gr_cli.specs.declared.settings.Command.TheVariants.{Run, Check, Replay, Bench}
@@ -38,6 +39,6 @@ abbrev pub limit_of : Command → ℕ
 limit_of Replay = MAX_REPLAY
 limit_of _ = MAX_PROGRAM
 
--- What is run today: one core, no limit on events, no counts, and a program that is built.
+-- What is run today: one core, the limit on events as it is by default, no counts, and a program that is built.
 abbrev pub is_run : Options → Program → Bool
-is_run options program = options.cores == 1 && (options.events == 2 ^ 40 && (not options.counts && is_built program))
+is_run options program = options.cores == 1 && (options.events == EVENTS.default && (not options.counts && is_built program))

@@ -10,7 +10,7 @@ use Rattle.gr_syntax.specs.Faults.{fault}
 use Rattle.gr_lang.specs.Histories.{complete}
 use Rattle.gr_cli.specs.declared.settings.Options.{Options}
 use Rattle.gr_cli.specs.declared.settings.Command.{Command}
-use Rattle.gr_cli.specs.declared.settings.Command.TheVariants.{Run, Check, Replay, Bench}
+use Rattle.gr_cli.specs.declared.settings.Command.TheVariants.{Run, Check}
 use Rattle.gr_hist.specs.Naming.{history_text}
 use Rattle.gr_replay.specs.Judged.{Verdict, legal, not_legal}
 use Rattle.gr_top.specs.Commands.{is_run}

@@ -1,5 +1,5 @@
 -- What a text reads as: its tokens spell one program that is accepted, or there is a first fault, of the tokens before one of the grammar before one of the checker.
-use Rattle.std.specs.Prelude.{◌≡◌, ◌≢◌, ◌<◌, ◌≤◌, ◌^◌, ℕ, true, false, List, length, map, Ok, Err, Option, None, Some, is_some, ◌⊎◌, String}
+use Rattle.std.specs.Prelude.{◌≡◌, ◌<◌, ◌≤◌, ℕ, true, false, List, length, Ok, Err, Option, None, Some, is_some, ◌⊎◌, String}
 use Rattle.std.specs.declared.alloc.Global.{Global}
 use Rattle.gr_syntax.specs.declared.syntax.Program.{Program}
 use Rattle.gr_syntax.specs.declared.refusal.Kind.TheVariants as kind
@@ -16,8 +16,7 @@ use Rattle.gr_top.specs.Commands.{asked, is_on_text, is_replay, is_read, limit_o
 use Rattle.gr_top.specs.Due.{Reading, accepted, refused, Replayed, unread, bad_line, judged, Due, due_usage, due_too_long, due_refused, due_read, due_replayed, Came, not_built}
 use Rattle.gr_top.specs.declared.answer.WorldEnd.{WorldEnd}
 use Rattle.gr_cli.specs.declared.settings.Options.{Options}
-use Rattle.gr_cli.specs.declared.settings.Command.{Command}
-use Rattle.gr_cli.specs.declared.settings.Command.TheVariants.{Run, Check, Replay, Bench}
+use Rattle.gr_cli.specs.declared.settings.Command.TheVariants.{Run, Bench}
 use Rattle.gr_hist.specs.declared.text.HistoryText.{HistoryText}
 use Rattle.gr_hist.specs.Grammar.{ReadsText}
 use Rattle.gr_hist.specs.Naming.{history_text, ReadsBack}

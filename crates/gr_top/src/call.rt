@@ -42,8 +42,10 @@ impl From<AllocError> for Stop {
 fn answer_to(alloc: Global, options: Options, bytes: &[u8]) -> Result<Answer, AllocError>
     requires reads { reads_source options.command ≡ true }
     requires few { length bytes.now ≤ limit_of options.command }
-    ensures due { IfOk result (λ a. (words : List (String Global)) → asked_of words ≡ Some options → IsDue words bytes.now a.world (made a)) }
-    ensures world { IfOk result (λ a. (words : List (String Global)) → asked_of words ≡ Some options → IsWorldOf words bytes.now a.world) }
+    ensures due { IfOk result (λ a. (words : List (String Global))
+        → asked_of words ≡ Some options → IsDue words bytes.now a.world (made a)) }
+    ensures world { IfOk result (λ a. (words : List (String Global))
+        → asked_of words ≡ Some options → IsWorldOf words bytes.now a.world) }
     ensures written { IfOk result (λ a. IsWritten a.refusal) }
 {
     if is_replay(options.command) {
@@ -57,14 +59,19 @@ fn answer_to(alloc: Global, options: Options, bytes: &[u8]) -> Result<Answer, Al
 
 /// The answer to words and a source.
 fn answer<S: Source>(alloc: Global, words: &[String], source: &mut S) -> Result<Answer, Stop>
-    ensures due { IfOk result (λ a. IfSome (S.left source.old) (λ bytes. IsDue words.now bytes a.world (made a))) }
-    ensures world { IfOk result (λ a. IfSome (S.left source.old) (λ bytes. IsWorldOf words.now bytes a.world)) }
-    ensures some_bytes { IfOk result (λ a. (bytes : List ℕ) × Consumes (S.left source.old) (S.left source.new) bytes
+    ensures due { IfOk result (λ a. IfSome (S.left source.old)
+        (λ bytes. IsDue words.now bytes a.world (made a))) }
+    ensures world { IfOk result (λ a. IfSome (S.left source.old)
+        (λ bytes. IsWorldOf words.now bytes a.world)) }
+    ensures some_bytes { IfOk result (λ a. (bytes : List ℕ)
+        × Consumes (S.left source.old) (S.left source.new) bytes
         × IsDue words.now bytes a.world (made a) × IsWorldOf words.now bytes a.world) }
     ensures written { IfOk result (λ a. IsWritten a.refusal) }
     ensures unread { IsUnread (asked_of words.now) → source.new ≡ source.old }
-    ensures within { IfSome (asked_of words.now) (λ o. ConsumesAtMost (S.left source.old) (S.left source.new) (limit_of o.command + 1)) }
-    ensures fault { IsErrOf result Stop.ReadFault → Rose (S.faults source.old) (S.faults source.new) }
+    ensures within { IfSome (asked_of words.now)
+        (λ o. ConsumesAtMost (S.left source.old) (S.left source.new) (limit_of o.command + 1)) }
+    ensures fault { IsErrOf result Stop.ReadFault
+        → Rose (S.faults source.old) (S.faults source.new) }
     ensures later { S.faults source.old ≤ S.faults source.new }
     ensures counted { CountsStop (S.faults source.old) (S.faults source.new) result }
 {
@@ -112,8 +119,8 @@ pub fn top<S: Source, K: Sink>(
     ensures retold { IfSome (S.left source.old) (λ bytes. IsRetold words.now bytes result.world) }
 
     // Where the source doesn't tell what it holds, there are bytes which it gave and which were answered so.
-    ensures some_bytes { IsDelivered result.refusal → AnsweredSome words.now (S.left source.old) (S.left source.new)
-        (K.got sink.old) (K.got sink.new) result.refusal result.world }
+    ensures some_bytes { IsDelivered result.refusal → AnsweredSome words.now (S.left source.old)
+        (S.left source.new) (K.got sink.old) (K.got sink.new) result.refusal result.world }
 
     // The headline: at status 0 a run was made whose history is legal and complete for the program of the text, and the sink got its prints, and its history text where that was asked for.
     ensures headline { result.status ≡ 0 → IfSome (S.left source.old) (λ bytes.
@@ -132,14 +139,16 @@ pub fn top<S: Source, K: Sink>(
     // With neither an answer nor a fault of the sink, the sink isn't asked. However the call ends, no more is read than one byte beyond the limit.
     ensures silent { (result.refusal ≡ Refusal.Memory) ⊎ (result.refusal ≡ Refusal.ReadFault)
         → Keeps (K.got sink.old) (K.got sink.new) × (result.world ≡ None) }
-    ensures untouched { (result.refusal ≡ Refusal.Memory) ⊎ (result.refusal ≡ Refusal.ReadFault) → sink.new ≡ sink.old }
+    ensures untouched { (result.refusal ≡ Refusal.Memory) ⊎ (result.refusal ≡ Refusal.ReadFault)
+        → sink.new ≡ sink.old }
     ensures within { IfSome (asked_of words.now) (λ options.
         ConsumesAtMost (S.left source.old) (S.left source.new) (limit_of options.command + 1)) }
 
     // When each refusal comes; a fault of the source or of the sink is told, and counted once.
     ensures usage { result.refusal ≡ Refusal.Usage → asked_of words.now ≡ None }
     ensures unread { IsUnread (asked_of words.now) → source.new ≡ source.old }
-    ensures too_long { result.refusal ≡ Refusal.TooLong → IfSome (S.left source.old) (IsTooLong words.now) }
+    ensures too_long { result.refusal ≡ Refusal.TooLong
+        → IfSome (S.left source.old) (IsTooLong words.now) }
     ensures refused { IfSome (S.left source.old) (RefusedWhere words.now result.refusal) }
     ensures not_legal { IfSome (S.left source.old) (NotLegalWhere result.refusal) }
     ensures bad_line { IfSome (S.left source.old) (BadLineWhere result.refusal) }

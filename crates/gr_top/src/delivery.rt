@@ -1,6 +1,7 @@
 //! The one place that writes.
 ghost use Rattle.std.specs.Prelude.{◌≡◌, ◌≢◌, ℕ, is_some};
 ghost use Rattle.gr_io.specs.Faults.{Rose};
+ghost use Rattle.gr_top.specs.AnswerView.{made};
 ghost use Rattle.gr_top.specs.Counts.{CountsWrites};
 ghost use Rattle.gr_top.specs.Due.{status_of, Came, IsWritten};
 
@@ -28,13 +29,16 @@ pub(crate) fn status(refusal: Refusal) -> u8
 /// Writes an answer. It takes no memory.
 pub(crate) fn deliver<K: Sink>(sink: &mut K, answer: Answer) -> RunEnd
     requires { IsWritten answer.refusal }
-    ensures came { Came (record { refusal = answer.refusal; text = answer.text.items; ran = is_some answer.world }) (K.got sink.old) (K.got sink.new) result.refusal result.world }
+    ensures came { Came (made answer) (K.got sink.old) (K.got sink.new)
+        result.refusal result.world }
     ensures not_read_fault { result.refusal ≢ Refusal.ReadFault }
     ensures not_memory { result.refusal ≢ Refusal.Memory }
     ensures status { result.status ≡ status_of result.refusal }
     ensures world { result.world ≡ answer.world }
-    ensures fault { (written : ℕ) → result.refusal ≡ Refusal.WriteFault written → Rose (K.faults sink.old) (K.faults sink.new) }
-    ensures given { ((written : ℕ) → result.refusal ≢ Refusal.WriteFault written) → result.refusal ≡ answer.refusal }
+    ensures fault { (written : ℕ) → result.refusal ≡ Refusal.WriteFault written
+        → Rose (K.faults sink.old) (K.faults sink.new) }
+    ensures given { ((written : ℕ) → result.refusal ≢ Refusal.WriteFault written)
+        → result.refusal ≡ answer.refusal }
     ensures counted { CountsWrites result.refusal (K.faults sink.old) (K.faults sink.new) }
 {
     let Answer {

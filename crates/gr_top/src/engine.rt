@@ -14,15 +14,12 @@ use crate::built::is_built;
 use crate::reading::{TextRead, read_text};
 use crate::straight::{Ran, run};
 use crate::texts::{first_trap, prints, refused_text, write_trap};
-use gr_cli::{Command, Options};
-use gr_hist::write;
 use gr_accept::Accepted;
+use gr_cli::{Command, EVENTS, Options};
+use gr_hist::write;
 use gr_lang::History;
 use gr_syntax::{Fault, Kind, Place};
 use std::alloc::{AllocError, Global};
-
-/// The greatest limit on events: no straight run on one core meets it.
-const NO_LIMIT: u64 = 1 << 40;
 
 /// What is said where a command or an accepted program isn't run today.
 const NOT_BUILT: Fault = Fault {
@@ -32,7 +29,8 @@ const NOT_BUILT: Fault = Fault {
 
 /// An answer that tells no more than this text.
 pub(crate) fn said(alloc: Global, refusal: Refusal, text: &str) -> Result<Answer, AllocError>
-    ensures { IfOk result (λ a. (a.refusal ≡ refusal) × (a.text.items ≡ text.now) × (a.world ≡ None)) }
+    ensures { IfOk result (λ a. (a.refusal ≡ refusal) × (a.text.items ≡ text.now)
+        × (a.world ≡ None)) }
 {
     Ok(Answer {
         refusal,
@@ -76,7 +74,8 @@ fn concluded(
     is_complete: bool,
 ) -> Result<(Refusal, Vec<u8>), AllocError>
     requires { (is_complete ≡ true) ⊎ (is_some (first_trap history.now) ≡ true) }
-    ensures due { IfOk result (λ r. due_of_run is_complete history.now ≡ Some (record { refusal = r.0; text = r.1.items; ran = true })) }
+    ensures due { IfOk result (λ r. due_of_run is_complete history.now
+        ≡ Some (record { refusal = r.0; text = r.1.items; ran = true })) }
     ensures written { IfOk result (λ r. IsWritten r.0) }
 {
     let mut text = prints(alloc, history.as_slice())?;
@@ -106,8 +105,10 @@ fn add_history(
     history: &History,
 ) -> Result<(), AllocError>
     requires { IsNamed program.now }
-    ensures text { OnOk result (text.new.items ≡ text.old.items ++ told options.history program.now options.cores options.steps history.now) }
-    ensures reads { OnOk result (options.history ≡ true → legal program.now options.cores options.steps history.now ≡ true
+    ensures text { OnOk result (text.new.items
+        ≡ text.old.items ++ told options.history program.now options.cores options.steps history.now) }
+    ensures reads { OnOk result (options.history ≡ true
+        → legal program.now options.cores options.steps history.now ≡ true
         → ReadsBack program.now options.cores options.steps history.now (history_text program.now options.cores options.steps history.now)) }
 {
     if options.history {
@@ -143,7 +144,7 @@ fn is_run(options: Options, program: &Accepted) -> bool
     ensures { result ≡ is_run_today options program.now }
 {
     options.cores == 1
-        && options.events == NO_LIMIT
+        && options.events == EVENTS.default
         && !options.counts
         && is_built(program.program())
 }
@@ -151,7 +152,8 @@ fn is_run(options: Options, program: &Accepted) -> bool
 /// The answer to an accepted program.
 fn accepted(alloc: Global, options: Options, program: &Accepted) -> Result<Answer, AllocError>
     requires { IsNamed program.now }
-    ensures due { IfOk result (λ a. due_accepted options.command options program.now a.world ≡ Some (made a)) }
+    ensures due { IfOk result (λ a. due_accepted options.command options program.now a.world
+        ≡ Some (made a)) }
     ensures runs { IfOk result (λ a. IfSome a.world (λ world. IsRunOf options program.now world)) }
     ensures written { IfOk result (λ a. IsWritten a.refusal) }
 {
@@ -179,8 +181,10 @@ fn accepted(alloc: Global, options: Options, program: &Accepted) -> Result<Answe
 
 /// The answer to a command on a program text.
 pub(crate) fn run_text(alloc: Global, options: Options, text: &[u8]) -> Result<Answer, AllocError>
-    ensures due { IfOk result (λ a. (reading : Reading) × ReadsAs text.now reading × (due_read options reading a.world ≡ Some (made a))) }
-    ensures world { IfOk result (λ a. IfSome a.world (λ world. (p : Program) × ReadsAs text.now (accepted_as p) × IsRunOf options p world)) }
+    ensures due { IfOk result (λ a. (reading : Reading) × ReadsAs text.now reading
+        × (due_read options reading a.world ≡ Some (made a))) }
+    ensures world { IfOk result (λ a. IfSome a.world (λ world. (p : Program)
+        × ReadsAs text.now (accepted_as p) × IsRunOf options p world)) }
     ensures written { IfOk result (λ a. IsWritten a.refusal) }
 {
     let read = read_text(alloc, text)?;

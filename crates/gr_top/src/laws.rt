@@ -10,7 +10,9 @@ ghost use Rattle.gr_top.specs.Readings.{ReadsAs, ReplaysAs, IsDue};
 /// is due.
 pub fn answers_are_exact()
     ensures reading { (text : List ℕ) (r q : Reading) → ReadsAs text r → ReadsAs text q → r ≡ q }
-    ensures replay { (text history : List ℕ) (x y : Replayed) → ReplaysAs text history x → ReplaysAs text history y → x ≡ y }
-    ensures due { (words : List (String Global)) (bytes : List ℕ) (world : Option WorldEnd) (d e : Due)
+    ensures replay { (text history : List ℕ) (x y : Replayed) → ReplaysAs text history x
+        → ReplaysAs text history y → x ≡ y }
+    ensures due { (words : List (String Global)) (bytes : List ℕ) (world : Option WorldEnd)
+        (d e : Due)
         → IsDue words bytes world d → IsDue words bytes world e → d ≡ e }
 {}

@@ -17,7 +17,8 @@ use std::alloc::{AllocError, Global};
 
 /// An answer that tells no more than this line.
 fn told(refusal: Refusal, line: String) -> Answer
-    ensures { (result.refusal ≡ refusal) × (result.text.items ≡ string_bytes line) × (result.world ≡ None) }
+    ensures { (result.refusal ≡ refusal) × (result.text.items ≡ string_bytes line)
+        × (result.world ≡ None) }
 {
     Answer {
         refusal,
@@ -28,7 +29,9 @@ fn told(refusal: Refusal, line: String) -> Answer
 
 /// The verdict on a history text that was read.
 fn judged(alloc: Global, program: &Accepted, text: &HistoryText) -> Result<Answer, AllocError>
-    ensures due { IfOk result (λ a. (v : Verdict) × Judged program.now text.now.cores text.now.steps text.now.lines v × (made a ≡ due_judged v)) }
+    ensures due { IfOk result (λ a. (v : Verdict)
+        × Judged program.now text.now.cores text.now.steps text.now.lines v
+        × (made a ≡ due_judged v)) }
     ensures world { IfOk result (λ a. a.world ≡ None) }
     ensures written { IfOk result (λ a. IsWritten a.refusal) }
 {
@@ -59,7 +62,8 @@ fn bad_line(error: HistError) -> Result<u64, AllocError>
 
 /// The answer to a history text of an accepted program.
 fn replayed(alloc: Global, program: &Accepted, history: &[u8]) -> Result<Answer, AllocError>
-    ensures due { IfOk result (λ a. (text : List ℕ) → ReadsAs text (accepted_as program.now) → (r : Finding) × ReplaysAs text history.now r × (made a ≡ due_replayed r)) }
+    ensures due { IfOk result (λ a. (text : List ℕ) → ReadsAs text (accepted_as program.now)
+        → (r : Finding) × ReplaysAs text history.now r × (made a ≡ due_replayed r)) }
     ensures world { IfOk result (λ a. a.world ≡ None) }
     ensures written { IfOk result (λ a. IsWritten a.refusal) }
 {
@@ -79,7 +83,9 @@ fn replayed(alloc: Global, program: &Accepted, history: &[u8]) -> Result<Answer,
 
 /// The answer to a source with a program text and a history text, divided by the first line that is `---`.
 pub(crate) fn replay_source(alloc: Global, source: &[u8]) -> Result<Answer, AllocError>
-    ensures due { IfOk result (λ a. (r : Finding) × ReplaysAs (program_part source.now) (history_part source.now) r × (made a ≡ due_replayed r)) }
+    ensures due { IfOk result (λ a. (r : Finding)
+        × ReplaysAs (program_part source.now) (history_part source.now) r
+        × (made a ≡ due_replayed r)) }
     ensures written { IfOk result (λ a. IsWritten a.refusal) }
     ensures world { IfOk result (λ a. a.world ≡ None) }
 {

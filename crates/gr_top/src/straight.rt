@@ -27,8 +27,10 @@ pub(crate) struct Ran {
 pub(crate) fn run(alloc: Global, program: &Accepted, steps: u64) -> Result<Ran, AllocError>
     requires { is_built_program program.now ≡ true }
     ensures legal { IfOk result (λ ran. legal program.now 1 steps ran.history ≡ true) }
-    ensures complete { IfOk result (λ ran. complete program.now 1 steps ran.history ≡ ran.is_complete) }
-    ensures ends { IfOk result (λ ran. (ran.is_complete ≡ true) ⊎ (is_some (first_trap ran.history) ≡ true)) }
+    ensures complete { IfOk result (λ ran. complete program.now 1 steps ran.history
+        ≡ ran.is_complete) }
+    ensures ends { IfOk result (λ ran. (ran.is_complete
+        ≡ true) ⊎ (is_some (first_trap ran.history) ≡ true)) }
 {
     let mut plain = Plain::start(alloc, program, CORES, steps)?;
     let mut history = History::new(alloc);

@@ -1,13 +1,12 @@
-use Rattle.std.proofs.Common.{◌≡◌, ◌∙◌, ℕ, ◌⊎◌, inl, List, sym, ap, subst}
-use Rattle.std.specs.Prelude.{◌++◌}
+use Rattle.std.proofs.Common.{◌∙◌, ℕ, inl, List, sym, subst}
 use Rattle.gr_hist.proofs.Readings.{reads_once}
 use Rattle.gr_replay.specs.Laws.{JudgedOnce}
 use Rattle.gr_replay.proofs.Verdicts.{said}
 use Rattle.gr_top.specs.Readings.{IsDue, IsWorldOf}
 use Rattle.gr_top.specs.AnswerView.{made}
+use Rattle.gr_top.specs.Promises.{AnswersChecks, AnswersRuns, AnswersReplays, AnswersRefused, RanWell, RefusedWhere, NotLegalWhere, BadLineWhere}
 use Rattle.gr_top.proofs.Dues.{if_some, of_some}
 use Rattle.gr_top.proofs.Calls.{answer_told, usage_of, too_long_of, refused_of, entry_of, line_of, headline_of, check_of, run_of, replay_of, refuse_of, either_of}
-use Rattle.gr_top.specs.declared.answer.Refusal.TheVariants as r
 use Rattle.gr_top.proofs.Retold.{world_retold}
 use Rattle.gr_top.proofs.Counted.{reads_quiet}
 use Rattle.gr_top.proofs.call.top.Goals as goal
@@ -32,7 +31,7 @@ returns-in-Ok-clause-some_bytes g c = λ given.
 
 pub returns-in-Ok-clause-headline : goal.returns-in-Ok-clause-headline
 returns-in-Ok-clause-headline g c = λ s.
-    if_some _ (λ bytes e o some run. headline_of c.args.words.now c.in-Ok.answer _ _ c.deliver.result.refusal c.deliver.result.world c.deliver.ensures.world c.deliver.ensures.came bytes o
+    if_some {A = List ℕ} {P = (λ bytes. RanWell c.args.words.now bytes _ _ c.deliver.result.world)} _ (λ bytes e o some run. headline_of c.args.words.now c.in-Ok.answer _ _ c.deliver.result.refusal c.deliver.result.world c.deliver.ensures.world c.deliver.ensures.came bytes o
     (of_some (λ (bs : List ℕ). IsDue c.args.words.now bs c.in-Ok.answer.world (made c.in-Ok.answer)) _ bytes e c.in-Ok.ensures.due)
     (of_some (λ (bs : List ℕ). IsWorldOf c.args.words.now bs c.in-Ok.answer.world) _ bytes e c.in-Ok.ensures.world) (sym c.deliver.ensures.status ∙ s) some run)
 
@@ -41,25 +40,25 @@ returns-in-Ok-clause-retold g c = world_retold c.args.words.now _ c.deliver.resu
 
 pub returns-in-Ok-clause-checks : goal.returns-in-Ok-clause-checks
 returns-in-Ok-clause-checks g c =
-    if_some _ (λ bytes e o p few reads some run quiet silent.
+    if_some {A = List ℕ} {P = (AnswersChecks c.args.words.now c.deliver.result.status _ _)} _ (λ bytes e o p few reads some run quiet silent.
     inl (c.deliver.ensures.status ∙ check_of c.args.words.now c.in-Ok.answer _ _ c.deliver.result.refusal c.deliver.result.world c.deliver.ensures.world c.deliver.ensures.came reads_once judged_once bytes o p
     (of_some (λ (bs : List ℕ). IsDue c.args.words.now bs c.in-Ok.answer.world (made c.in-Ok.answer)) _ bytes e c.in-Ok.ensures.due) few reads some run (λ written k. silent (c.deliver.ensures.fault written k))))
 
 pub returns-in-Ok-clause-runs : goal.returns-in-Ok-clause-runs
 returns-in-Ok-clause-runs g c =
-    if_some _ (λ bytes e o p few reads some run built quiet silent.
+    if_some {A = List ℕ} {P = (AnswersRuns c.args.words.now c.deliver.result.status _ _)} _ (λ bytes e o p few reads some run built quiet silent.
     either_of c.deliver.result.status _ c.deliver.ensures.status (run_of c.args.words.now c.in-Ok.answer _ _ c.deliver.result.refusal c.deliver.result.world c.deliver.ensures.world c.deliver.ensures.came reads_once judged_once bytes o p
     (of_some (λ (bs : List ℕ). IsDue c.args.words.now bs c.in-Ok.answer.world (made c.in-Ok.answer)) _ bytes e c.in-Ok.ensures.due) few reads some run built (λ written k. silent (c.deliver.ensures.fault written k))))
 
 pub returns-in-Ok-clause-replays : goal.returns-in-Ok-clause-replays
 returns-in-Ok-clause-replays g c =
-    if_some _ (λ bytes e o b few found some run quiet silent.
+    if_some {A = List ℕ} {P = (AnswersReplays c.args.words.now c.deliver.result.status _ _)} _ (λ bytes e o b few found some run quiet silent.
     inl (c.deliver.ensures.status ∙ replay_of c.args.words.now c.in-Ok.answer _ _ c.deliver.result.refusal c.deliver.result.world c.deliver.ensures.world c.deliver.ensures.came reads_once judged_once bytes o b
     (of_some (λ (bs : List ℕ). IsDue c.args.words.now bs c.in-Ok.answer.world (made c.in-Ok.answer)) _ bytes e c.in-Ok.ensures.due) few found some run (λ written k. silent (c.deliver.ensures.fault written k))))
 
 pub returns-in-Ok-clause-refuses : goal.returns-in-Ok-clause-refuses
 returns-in-Ok-clause-refuses g c =
-    if_some _ (λ bytes e o f few reads some on quiet silent.
+    if_some {A = List ℕ} {P = (AnswersRefused c.args.words.now c.deliver.result.refusal _ _)} _ (λ bytes e o f few reads some on quiet silent.
     inl (refuse_of c.args.words.now c.in-Ok.answer _ _ c.deliver.result.refusal c.deliver.result.world c.deliver.ensures.world c.deliver.ensures.came reads_once judged_once bytes o f
     (of_some (λ (bs : List ℕ). IsDue c.args.words.now bs c.in-Ok.answer.world (made c.in-Ok.answer)) _ bytes e c.in-Ok.ensures.due) few reads some on (λ written k. silent (c.deliver.ensures.fault written k))))
 
@@ -77,15 +76,15 @@ returns-in-Ok-clause-too_long g c = λ u.
 
 pub returns-in-Ok-clause-refused : goal.returns-in-Ok-clause-refused
 returns-in-Ok-clause-refused g c =
-    if_some _ (λ bytes e kind line column u. refused_of c.args.words.now c.in-Ok.answer _ _ c.deliver.result.refusal c.deliver.result.world c.deliver.ensures.world c.deliver.ensures.came bytes
+    if_some {A = List ℕ} {P = (RefusedWhere c.args.words.now c.deliver.result.refusal)} _ (λ bytes e kind line column u. refused_of c.args.words.now c.in-Ok.answer _ _ c.deliver.result.refusal c.deliver.result.world c.deliver.ensures.world c.deliver.ensures.came bytes
     (of_some (λ (bs : List ℕ). IsDue c.args.words.now bs c.in-Ok.answer.world (made c.in-Ok.answer)) _ bytes e c.in-Ok.ensures.due) kind line column u)
 
 pub returns-in-Ok-clause-not_legal : goal.returns-in-Ok-clause-not_legal
 returns-in-Ok-clause-not_legal g c =
-    if_some _ (λ bytes e entry u. entry_of c.args.words.now c.in-Ok.answer _ _ c.deliver.result.refusal c.deliver.result.world c.deliver.ensures.world c.deliver.ensures.came bytes
+    if_some {A = List ℕ} {P = (NotLegalWhere c.deliver.result.refusal)} _ (λ bytes e entry u. entry_of c.args.words.now c.in-Ok.answer _ _ c.deliver.result.refusal c.deliver.result.world c.deliver.ensures.world c.deliver.ensures.came bytes
     (of_some (λ (bs : List ℕ). IsDue c.args.words.now bs c.in-Ok.answer.world (made c.in-Ok.answer)) _ bytes e c.in-Ok.ensures.due) entry u)
 
 pub returns-in-Ok-clause-bad_line : goal.returns-in-Ok-clause-bad_line
 returns-in-Ok-clause-bad_line g c =
-    if_some _ (λ bytes e line u. line_of c.args.words.now c.in-Ok.answer _ _ c.deliver.result.refusal c.deliver.result.world c.deliver.ensures.world c.deliver.ensures.came bytes
+    if_some {A = List ℕ} {P = (BadLineWhere c.deliver.result.refusal)} _ (λ bytes e line u. line_of c.args.words.now c.in-Ok.answer _ _ c.deliver.result.refusal c.deliver.result.world c.deliver.ensures.world c.deliver.ensures.came bytes
     (of_some (λ (bs : List ℕ). IsDue c.args.words.now bs c.in-Ok.answer.world (made c.in-Ok.answer)) _ bytes e c.in-Ok.ensures.due) line u)

@@ -1,5 +1,5 @@
-use Rattle.std.proofs.Common.{◌≡◌, sym, ap, ◌∙◌, subst}
-use Rattle.gr_top.specs.Due.{Reading, accepted}
+use Rattle.std.proofs.Common.{ap, subst}
+use Rattle.gr_top.specs.Due.{Reading}
 use Rattle.gr_top.specs.Readings.{ReadsAs}
 use Rattle.gr_top.specs.AnswerView.{reading_of}
 use Rattle.gr_top.proofs.Namings.{accepted_named}

@@ -1,6 +1,6 @@
 use Rattle.std.proofs.Common.{sym, subst}
 use Rattle.gr_syntax.specs.declared.syntax.Program.{Program}
-use Rattle.gr_checker.specs.declared.check.CheckError.{CheckError}
+use Rattle.gr_checker.specs.declared.checking.CheckError.{CheckError}
 use Rattle.gr_checker.specs.Refusals.{Refuses}
 use Rattle.gr_top.specs.Due.{accepted}
 use Rattle.gr_top.specs.Readings.{ReadsAs}

@@ -1,5 +1,4 @@
-use Rattle.std.proofs.Common.{◌≡◌, Err, ap, subst, ◌∙◌, is_some}
-use Rattle.gr_hist.specs.declared.text.HistError.{HistError}
+use Rattle.std.proofs.Common.{Err, ap, subst, ◌∙◌, is_some}
 use Rattle.gr_hist.specs.Grammar.{ReadsText, SaysError}
 use Rattle.gr_top.specs.Due.{bad_line, judged, due_replayed}
 use Rattle.gr_top.specs.Readings.{ReplaysAs}

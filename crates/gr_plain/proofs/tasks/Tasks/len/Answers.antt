@@ -1,4 +1,4 @@
-use Rattle.std.proofs.Common.{◌≡◌, ◌∙◌, sym, ap, length}
+use Rattle.std.proofs.Common.{◌∙◌, sym, ap, length}
 use Rattle.std.specs.FinMap as fin
 use Rattle.gr_lang.proofs.TaskIds.{entries_id}
 use Rattle.gr_plain.proofs.tasks.Tasks.len.Goals as goal

@@ -1,30 +1,17 @@
 -- What each step changes in the number of unended tasks of a scope, and in the number of scopes.
-use Rattle.std.proofs.Common.{◌≡◌, ℕ, ◌+◌, ◌<◌, Bool, true, false, ◌&&◌, List, [], ◌∷◌, ◌++◌, Option, Some, None, refl, sym, ap, ◌∙◌, arith, cond, subst, length, is_none, length-append, length-set}
-use Rattle.std.specs.Prelude.{◌==◌, not, IfSome, if◌then◌else◌, slice_get, nat_le, nat_lt}
-use Rattle.std.specs.Option.{option_map, option_and_then}
-use Rattle.std.specs.List.{count_by}
+use Rattle.std.proofs.Common.{◌≡◌, ℕ, ◌+◌, Bool, true, false, ◌&&◌, Option, Some, None, refl, sym, ap, ◌∙◌, arith, cond, subst, length, is_none}
+use Rattle.std.specs.Prelude.{◌==◌, IfSome, if◌then◌else◌}
+use Rattle.std.specs.Option.{option_and_then}
 use Rattle.std.specs.Ordering.{eq_by_cmp}
 use Rattle.std.specs.declared.cmp.Ordering.{Ordering}
 use Rattle.std.specs.declared.cmp.Ordering.TheVariants.{Less, Equal, Greater}
 use Rattle.std.specs.FinMap as fin
-use Rattle.std.specs.FinSet as set
 use Rattle.gr_lang.proofs.TaskIds.{ids_total}
-use Rattle.gr_syntax.specs.declared.syntax.Program.{Program}
-use Rattle.gr_lang.specs.declared.action.Action.{Action}
-use Rattle.gr_lang.specs.declared.action.Action.TheVariants as a
-use Rattle.gr_lang.specs.declared.action.Entry.{Entry}
-use Rattle.gr_lang.specs.declared.action.Entry.TheVariants as e
 use Rattle.gr_lang.specs.declared.action.TaskId.{TaskId}
-use Rattle.gr_lang.specs.declared.action.How.{How}
-use Rattle.gr_lang.specs.declared.action.TrapKind.{TrapKind}
-use Rattle.gr_lang.specs.declared.action.TrapKind.TheVariants as trap
-use Rattle.gr_lang.specs.Objects.{call}
-use Rattle.gr_lang.specs.Effects.{nothing}
-use Rattle.gr_lang.specs.States.{Mode, going, at_loop, ended, trapped, State, Task, Scope, Range, has_ended, is_going, is_at_loop, innermost, child, id_cmp, left}
-use Rattle.gr_lang.specs.Steps.{step, of_task, if_going, when, set_task, goes_on, is_new, call_step, spawn_step, finish_step, loop_step, begin_step, begin_at, begin_in, pass_step, pass_from, arrive_step, end_step, trap_step, over_step}
+use Rattle.gr_lang.specs.States.{Mode, going, at_loop, ended, trapped, State, Task, has_ended, is_going, is_at_loop, id_cmp}
+use Rattle.gr_lang.specs.Steps.{of_task, when, is_new}
 use Rattle.gr_valid.specs.Work.{works_in}
-use Rattle.gr_plain.specs.CountWords.{change_of, unended_of, begins_in, ends_in}
-use Rattle.gr_plain.specs.StackView.{top_of}
+use Rattle.gr_plain.specs.CountWords.{unended_of}
 use Rattle.gr_plain.specs.declared.counts.Change.{Change}
 use Rattle.gr_plain.specs.declared.counts.Change.TheVariants as c
 use Rattle.gr_plain.proofs.Tallies.{count_in, count-insert}
@@ -42,7 +29,7 @@ abbrev pub opened_by : Change → ℕ
 opened_by c.Opens = 1
 opened_by _ = 0
 
-pub record Effect (S : State) (change : Change) (T : State) : Type 0 where
+pub record Recount (S : State) (change : Change) (T : State) : Type 0 where
   pub scopes : length T.scopes ≡ length S.scopes + opened_by change
   pub counts : (s : ℕ) → unended_of T.tasks s + ended_by change s ≡ unended_of S.tasks s + begun_by change s
 
