@@ -15,6 +15,7 @@ fn one_scope_comes_to_its_end(rt: HostRuntime) -> Result<(), Fail> {
     let mut counts = LocalCounts::new(rt.alloc());
     may_move(&counts);
     counts.start(SCOPE, 1)?;
+    assert!(rt; counts.count(SCOPE) == Some(1));
     assert!(rt; matches!(counts.enrol(SCOPE, 3)?, Enrol::Counted));
     assert!(rt; counts.count(SCOPE) == Some(2));
     assert!(rt; matches!(counts.complete(SCOPE, 1), LocalLeft::More));
@@ -34,7 +35,10 @@ fn the_last_core_releases(rt: HostRuntime) -> Result<(), Fail> {
     let mut masters = Masters::new(rt.alloc());
     may_move(&masters);
     masters.start(SCOPE)?;
+    assert!(rt; masters.active(SCOPE) == Some(1));
+    assert!(rt; !masters.waited(SCOPE));
     masters.wait(SCOPE, Waiter::Task { slot: 5 });
+    assert!(rt; masters.active(SCOPE) == Some(1));
     masters.enrol(SCOPE);
     assert!(rt; masters.active(SCOPE) == Some(2));
     assert!(rt; matches!(masters.leave(SCOPE), Release::Held));

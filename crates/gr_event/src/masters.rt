@@ -105,7 +105,7 @@ impl Masters {
 
     /// The waiter waits for the end of a scope that is there and for which nobody waits.
     pub fn wait(&mut self, scope: ScopeId, waiter: Waiter)
-        requires there { IsSome (masters_of self.old scope) }
+        requires there { IsSome (active_of (masters_of self.old scope)) }
         requires alone { is_waited (masters_of self.old scope) ≡ false }
         ensures { masters_of self.new ≡ put_scope (masters_of self.old) scope
             (option_map (wait_for waiter) (masters_of self.old scope)) }
