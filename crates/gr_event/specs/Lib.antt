@@ -1,0 +1,4 @@
+pub mod Scopes
+pub mod Counts
+pub mod Masters
+pub mod Laws
