@@ -1,5 +1,5 @@
 -- Writes to functions of scopes, and to lists of pairs as such functions.
-use Rattle.std.proofs.Common.{◌≡◌, ◌≢◌, ℕ, Option, Some, None, List, [], ap, ◌∙◌, sym, refl, cond, Bool, true, false, if◌then◌else◌, ◌==◌, inl, inr, eq-eqb, ne_eqb}
+use Rattle.std.proofs.Common.{◌≡◌, ℕ, Option, None, List, [], ap, ◌∙◌, sym, refl, cond, Bool, true, false, if◌then◌else◌, ◌==◌, inl, inr, eq-eqb, ne_eqb}
 use Rattle.std.specs.Prelude.{◌&&◌}
 use Rattle.std.proofs.lemmas.Bool.{cases_eq}
 use Rattle.std.specs.Cmp.{nat_cmp_is}

@@ -1,6 +1,5 @@
 -- The master of a scope: how many cores are active in it, who waits for its end, and who is released when a core leaves.
 use Rattle.std.specs.Prelude.{ℕ, ◌+◌, ◌-◌, ◌==◌, Bool, false, List, Option, Some, None, is_some, if◌then◌else◌}
-use Rattle.std.specs.Option.{option_map}
 use Rattle.gr_msg.specs.declared.message.ScopeId.{ScopeId}
 use Rattle.gr_event.specs.declared.masters.Master.{Master}
 use Rattle.gr_event.specs.declared.masters.Waiter.{Waiter}

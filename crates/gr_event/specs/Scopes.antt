@@ -1,5 +1,5 @@
 -- Functions of scopes: one with another value at one scope, and a list of pairs as the function that it stands for.
-use Rattle.std.specs.Prelude.{Bool, List, Option, if◌then◌else◌}
+use Rattle.std.specs.Prelude.{List, Option, if◌then◌else◌}
 use Rattle.std.specs.Ordering.{nat_cmp, ordering_then}
 use Rattle.std.specs.declared.cmp.Ordering.{Ordering}
 use Rattle.std.specs.Map.{lookup}
