@@ -1,0 +1,4 @@
+pub mod Held
+pub mod Groups
+pub mod Runs
+pub mod Granting
