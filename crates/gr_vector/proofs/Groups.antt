@@ -27,13 +27,16 @@ module _ (sort : WaitingCall → Bool) where
   one_more (op.Dequeue object) call pushes pops dequeues calls e h = omega (arith, counted call dequeues, counted call calls, h)
   one_more _ call pushes pops dequeues calls e h = absurd (true≢false (sym e))
 
+  abbrev IsCall : WaitingCall → Type 0
+  IsCall call = is_some (vector_of call.op) ≡ true
+
   kinds : (calls : List WaitingCall) → All (λ call. is_some (vector_of call.op) ≡ true) calls
       → many (calls_of kind.Push calls) + (many (calls_of kind.Pop calls) + many (calls_of kind.Dequeue calls)) ≡ many calls
   kinds [] h = refl
-  kinds (call ∷ calls) h = one_more call.op call (calls_of kind.Push calls) (calls_of kind.Pop calls) (calls_of kind.Dequeue calls) calls (All-head h) (kinds calls (All-tail h))
+  kinds (call ∷ calls) h = one_more call.op call (calls_of kind.Push calls) (calls_of kind.Pop calls) (calls_of kind.Dequeue calls) calls (All-head IsCall call calls h) (kinds calls (All-tail IsCall call calls h))
 
   joined : (one two : List WaitingCall) → many (one ++ two) ≡ many one + many two
-  joined one two = ap length (filter-append one two) ∙ length-append (filter sort one) (filter sort two)
+  joined one two = ap length (filter-append sort one two) ∙ length-append (filter sort one) (filter sort two)
 
   grouped : (calls : List WaitingCall) → All (λ call. is_some (vector_of call.op) ≡ true) calls → many (group_of calls) ≡ many calls
   grouped calls h = omega (

@@ -1,9 +1,8 @@
 -- Words held at positions, by the entries of a tree map.
-use Rattle.std.proofs.Common.{◌≡◌, ◌≢◌, ℕ, List, Bool, true, false, Option, Some, None, refl, sym, ap, ◌∙◌, inl, inr, cond}
+use Rattle.std.proofs.Common.{◌≡◌, ◌≢◌, ℕ, List, Bool, true, false, Option, Some, None, refl, sym, ap, ◌∙◌, inl, inr, cond, eq-eqb, ne_eqb}
 use Rattle.std.proofs.lemmas.Bool.{cases_eq}
-use Rattle.std.specs.Ordering.{nat_cmp, is_eq}
-use Rattle.std.specs.Cmp.{nat_cmp_total}
-use Rattle.std.specs.FinMap.{nat_cmp-IsAntisymmetric}
+use Rattle.std.specs.Ordering.{nat_cmp}
+use Rattle.std.specs.Cmp.{unsigned_tied}
 use Rattle.std.specs.Map.{lookup}
 use Rattle.std.specs.BTreeMap.{is_at}
 use Rattle.gr_view.specs.Places.{put}
@@ -11,10 +10,10 @@ use Rattle.gr_view.proofs.Puts.{put_by}
 use Rattle.gr_vector.specs.Parts.{part_of}
 
 same_at : (position other : ℕ) → other ≡ position → is_at (nat_cmp position) other ≡ true
-same_at position other e = grind (arith, nat_tests)
+same_at position other e = unsigned_tied position other ∙ eq-eqb position other (sym e)
 
 apart_at : (position other : ℕ) → other ≢ position → is_at (nat_cmp position) other ≡ false
-apart_at position other n = grind (arith, nat_tests)
+apart_at position other n = unsigned_tied position other ∙ ne_eqb position other (λ q. n (sym q))
 
 pub part_put : (before after : List (ℕ × ℕ)) (position : ℕ) (value : Option ℕ)
     → ((other : ℕ) → lookup (is_at (nat_cmp other)) after ≡ cond (is_at (nat_cmp position) other) value (lookup (is_at (nat_cmp other)) before))

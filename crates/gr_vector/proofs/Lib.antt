@@ -2,3 +2,4 @@ pub mod Held
 pub mod Groups
 pub mod Runs
 pub mod Granting
+pub mod Fits

@@ -1,6 +1,7 @@
 -- The plan of a group does what its calls do.
 use Rattle.std.proofs.Common.{◌≡◌, ◌≢◌, ℕ, zero, suc, ◌+◌, ◌-◌, ◌<◌, ◌≤◌, Bool, true, false, cond, if◌then◌else◌, nat_lt, List, [], ◌∷◌, ◌++◌, length, take, drop, filter, slice_get, Option, Some, None, refl, sym, ap, ap₂, ◌∙◌, subst, arith, true≢false, length-append, length-take}
 use Rattle.std.specs.Prelude.{⊤}
+use Rattle.std.proofs.lemmas.Bool.Decides.{nat_tests}
 use Rattle.std.specs.Option.{option_and_then}
 use Rattle.gr_lang.specs.declared.action.Op.{Op}
 use Rattle.gr_lang.specs.declared.action.Op.TheVariants as op

@@ -6,3 +6,4 @@ pub mod Laws
 pub mod Rows
 -- For proofs and private functions.
 pub mod TurnView
+pub mod PlanWords

@@ -70,6 +70,7 @@ impl VecPart {
 }
 
 /// The word at a position, if one is held there.
+#[tactic(auto, using(crate::proofs::Held::at_parts))]
 fn held_at(words: &BTreeMap<u64, u64>, position: u64) -> Option<u64>
     ensures { result ≡ part_of words.now.entries position }
 {
