@@ -1,5 +1,5 @@
 -- Turns are granted in the order of asking, one at a time.
-use Rattle.std.proofs.Common.{◌≡◌, ℕ, ◌+◌, Bool, true, false, List, [], ◌∷◌, ◌++◌, length, take, drop, refl, sym, ap, ◌∙◌, arith, true≢false, append_assoc, append-nil}
+use Rattle.std.proofs.Common.{◌≡◌, ℕ, ◌+◌, List, [], ◌∷◌, ◌++◌, length, take, drop, refl, sym, ap, ◌∙◌, arith, true≢false, append_assoc, append-nil}
 use Rattle.gr_vector.specs.Turns.{Turns}
 use Rattle.gr_vector.specs.Laws.{Event, ask, done, turns_after, CanBe, grants, asks, ends_in, number_out, TurnsAreInOrder, OneTurnIsOut}
 

@@ -1,5 +1,5 @@
 -- The plan of a group does what its calls do.
-use Rattle.std.proofs.Common.{◌≡◌, ◌≢◌, ℕ, zero, suc, ◌+◌, ◌-◌, ◌<◌, ◌≤◌, Bool, true, false, cond, if◌then◌else◌, nat_lt, List, [], ◌∷◌, ◌++◌, length, take, drop, filter, slice_get, Option, Some, None, refl, sym, ap, ap₂, ◌∙◌, subst, arith, true≢false, length-append, length-take}
+use Rattle.std.proofs.Common.{◌≡◌, ℕ, zero, suc, ◌+◌, ◌-◌, ◌<◌, ◌≤◌, Bool, true, false, cond, if◌then◌else◌, nat_lt, List, [], ◌∷◌, ◌++◌, length, take, filter, slice_get, Option, Some, None, refl, sym, ap, ap₂, ◌∙◌, subst, arith, true≢false, length-append, length-take}
 use Rattle.std.specs.Prelude.{⊤}
 use Rattle.std.proofs.lemmas.Bool.Decides.{nat_tests}
 use Rattle.std.specs.Option.{option_and_then}
@@ -14,8 +14,8 @@ use Rattle.gr_vector.specs.declared.ends.Ends.{Ends}
 use Rattle.gr_vector.specs.declared.kind.Kind.{Kind}
 use Rattle.gr_vector.specs.declared.kind.Kind.TheVariants as kind
 use Rattle.gr_vector.specs.Groups.{is_of, calls_of, group_of}
-use Rattle.gr_vector.specs.Plans.{placed, taken, after, placed_by, taken_by, ends_after, present}
-use Rattle.gr_vector.specs.Laws.{Stand, with_puts, words_after, replies, replies_from, IsRun, PlansAreTheCalls}
+use Rattle.gr_vector.specs.Plans.{placed, taken, after, placed_by, present}
+use Rattle.gr_vector.specs.Laws.{Stand, with_puts, IsRun, PlansAreTheCalls}
 
 -- Words that stand one after another.
 
@@ -133,9 +133,10 @@ below held at (Some pair ∷ puts) r p l =
 kept : (held : ℕ → Option ℕ) (at : ℕ) (puts : List (Option (ℕ × ℕ))) → Rising at puts → Kept (with_puts held (present puts)) puts
 kept held at [] r = tt
 kept held at (None ∷ puts) r = (tt, kept held at puts r)
-kept held at (Some pair ∷ puts) r =
-    (below (put held pair.0 (Some pair.1)) (at + 1) puts r.1 pair.0 (omega (arith, r.0)) ∙ put_at held pair.0 (Some pair.1) pair.0 refl,
-     kept (put held pair.0 (Some pair.1)) (at + 1) puts r.1)
+kept held at (Some pair ∷ puts) r = (
+  below (put held pair.0 (Some pair.1)) (at + 1) puts r.1 pair.0 (omega (arith, r.0)) ∙ put_at held pair.0 (Some pair.1) pair.0 refl,
+  kept (put held pair.0 (Some pair.1)) (at + 1) puts r.1,
+)
 
 -- The kinds of a group's calls.
 
@@ -196,8 +197,8 @@ group_rises calls ends =
     pushes_rise (calls_of kind.Push calls) (calls_of kind.Pop calls ++ calls_of kind.Dequeue calls)
     (each_filter is_push calls)
     (each_append is_push false (calls_of kind.Pop calls) (calls_of kind.Dequeue calls)
-      (each_not kind.Pop pop_not (calls_of kind.Pop calls) (each_filter (λ call. is_of kind.Pop call.op) calls))
-      (each_not kind.Dequeue dequeue_not (calls_of kind.Dequeue calls) (each_filter (λ call. is_of kind.Dequeue call.op) calls)))
+    (each_not kind.Pop pop_not (calls_of kind.Pop calls) (each_filter (λ call. is_of kind.Pop call.op) calls))
+    (each_not kind.Dequeue dequeue_not (calls_of kind.Dequeue calls) (each_filter (λ call. is_of kind.Dequeue call.op) calls)))
     ends
 
 pub plans : PlansAreTheCalls

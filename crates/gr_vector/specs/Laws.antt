@@ -1,5 +1,5 @@
 -- The laws of groups, plans and turns.
-use Rattle.std.specs.Prelude.{◌≡◌, ℕ, ◌+◌, Bool, true, ⊤, All, if◌then◌else◌, List, [], ◌∷◌, ◌++◌, length, map, take, drop, filter, Option, Some, None, is_some}
+use Rattle.std.specs.Prelude.{◌≡◌, ℕ, ◌+◌, Bool, true, ⊤, All, if◌then◌else◌, List, [], ◌∷◌, ◌++◌, length, map, drop, filter, Option, Some, None, is_some}
 use Rattle.std.specs.Option.{option_and_then}
 use Rattle.gr_lang.specs.declared.action.Reply.{Reply}
 use Rattle.gr_lang.specs.declared.action.WaitingCall.{WaitingCall}
@@ -8,7 +8,7 @@ use Rattle.gr_view.specs.Places.{put}
 use Rattle.gr_vector.specs.declared.ends.Ends.{Ends}
 use Rattle.gr_vector.specs.declared.master.Granted.{Granted}
 use Rattle.gr_vector.specs.Groups.{vector_of, group_of}
-use Rattle.gr_vector.specs.Plans.{placed_by, taken_by, ends_after, present, plan_of}
+use Rattle.gr_vector.specs.Plans.{taken_by, ends_after, plan_of}
 use Rattle.gr_vector.specs.Turns.{Turns, granted, is_out, asked, grant_on_asking, ended}
 
 -- Groups.

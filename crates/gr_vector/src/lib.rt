@@ -12,7 +12,9 @@ mod planning;
 mod shared;
 
 pub use combiner::VecCombiner;
-pub use laws::{groups_are_the_calls, plans_are_the_calls, turn_rows, turns_are_in_order, vector_rows};
+pub use laws::{
+    groups_are_the_calls, plans_are_the_calls, turn_rows, turns_are_in_order, vector_rows,
+};
 pub use master::{Granted, VecMaster};
 pub use part::VecPart;
 pub use planning::{Planned, plan};
