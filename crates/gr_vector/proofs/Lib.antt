@@ -1,0 +1,5 @@
+pub mod Held
+pub mod Groups
+pub mod Runs
+pub mod Granting
+pub mod Fits
