@@ -4,7 +4,7 @@ use Rattle.gr_lang.specs.declared.action.Op.{Op}
 use Rattle.gr_lang.specs.declared.action.Op.TheVariants as op
 use Rattle.gr_lang.specs.declared.action.WaitingCall.{WaitingCall}
 use Rattle.gr_vector.specs.declared.ends.Ends.{Ends}
-use Rattle.gr_vector.specs.declared.planning.Planned.{Planned}
+use Rattle.gr_vector.specs.declared.planning.Plan.{Plan}
 
 -- One call. The vector's words stand at the positions from head to below tail.
 
@@ -47,7 +47,7 @@ abbrev pub present : {X : Type 0} → List (Option X) → List X
 present options = filter_map (λ option. option) options
 
 -- The plan of a group.
-abbrev pub plan_from : List WaitingCall → Ends → Planned
+abbrev pub plan_from : List WaitingCall → Ends → Plan
 plan_from group ends = record {
   puts = present (placed_by group ends);
   gets = present (taken_by group ends);
@@ -55,5 +55,5 @@ plan_from group ends = record {
   tail = (ends_after group ends).tail;
 }
 
-abbrev pub plan_of : List WaitingCall → ℕ → ℕ → Planned
+abbrev pub plan_of : List WaitingCall → ℕ → ℕ → Plan
 plan_of group head tail = plan_from group record { head = head; tail = tail }

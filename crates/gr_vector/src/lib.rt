@@ -17,5 +17,5 @@ pub use laws::{
 };
 pub use master::{Granted, VecMaster};
 pub use part::VecPart;
-pub use planning::{Planned, plan};
+pub use planning::{Plan, plan};
 pub use shared::vectors_are_shared;

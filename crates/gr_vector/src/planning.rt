@@ -12,7 +12,7 @@ use std::alloc::{AllocError, Global};
 /// What a turn does: the positions at which words are put, those from which words are taken, the pops'
 /// before the dequeues', and between which positions the vector's words stand afterwards.
 #[derive(Drop)]
-pub struct Planned {
+pub struct Plan {
     /// Positions with the words that are put there.
     pub puts: Pairs,
     /// Positions from which words are taken.
@@ -42,7 +42,7 @@ fn add_get(gets: &mut Vec<u64>, ends: Ends, op: Op) -> Result<(), AllocError>
 }
 
 /// The plan of calls one after another, where the vector's words stand between these ends.
-fn follow(alloc: Global, calls: &[WaitingCall], first: Ends) -> Result<Planned, AllocError>
+fn follow(alloc: Global, calls: &[WaitingCall], first: Ends) -> Result<Plan, AllocError>
     requires { Fit calls.now first }
     ensures { IfOk result (λ planned. planned ≡ plan_from calls.now first) }
 {
@@ -55,7 +55,7 @@ fn follow(alloc: Global, calls: &[WaitingCall], first: Ends) -> Result<Planned, 
         add_get(&mut gets, ends, call.op)?;
         ends = next;
     }
-    Ok(Planned {
+    Ok(Plan {
         puts: Pairs::from_vec(puts),
         gets: Words::from_vec(gets),
         head: ends.head,
@@ -67,7 +67,7 @@ fn follow(alloc: Global, calls: &[WaitingCall], first: Ends) -> Result<Planned, 
 ///
 /// Words are pushed at `tail` and on. Pops take from the last position downwards and dequeues from `head`
 /// upwards, while positions are left.
-pub fn plan(alloc: Global, group: &Calls, head: u64, tail: u64) -> Result<Planned, AllocError>
+pub fn plan(alloc: Global, group: &Calls, head: u64, tail: u64) -> Result<Plan, AllocError>
     requires fits { tail + length (calls_of kind.Push group.now) < 2 ^ 64 }
     requires ends { head ≤ tail }
     ensures { IfOk result (λ planned. planned ≡ plan_of group.now head tail) }
