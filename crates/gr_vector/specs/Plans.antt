@@ -4,7 +4,7 @@ use Rattle.gr_lang.specs.declared.action.Op.{Op}
 use Rattle.gr_lang.specs.declared.action.Op.TheVariants as op
 use Rattle.gr_lang.specs.declared.action.WaitingCall.{WaitingCall}
 use Rattle.gr_vector.specs.declared.ends.Ends.{Ends}
-use Rattle.gr_vector.specs.declared.planning.Plan.{Plan}
+use Rattle.gr_vector.specs.declared.turn_plan.Plan.{Plan}
 
 -- One call. The vector's words stand at the positions from head to below tail.
 

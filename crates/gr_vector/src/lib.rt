@@ -10,6 +10,7 @@ mod master;
 mod part;
 mod planning;
 mod shared;
+mod turn_plan;
 
 pub use combiner::VecCombiner;
 pub use laws::{
@@ -17,5 +18,6 @@ pub use laws::{
 };
 pub use master::{Granted, VecMaster};
 pub use part::VecPart;
-pub use planning::{Plan, plan};
+pub use planning::plan;
 pub use shared::vectors_are_shared;
+pub use turn_plan::Plan;

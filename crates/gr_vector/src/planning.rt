@@ -6,20 +6,9 @@ ghost use Rattle.gr_vector.specs.PlanWords.{Fit};
 ghost use Rattle.gr_vector.specs.Plans.{placed, plan_from, plan_of, present, taken};
 
 use crate::ends::Ends;
+use crate::turn_plan::Plan;
 use gr_lang::{Calls, Op, Pairs, WaitingCall, Words};
 use std::alloc::{AllocError, Global};
-
-/// What a turn does: the positions at which words are put, those from which words are taken, the pops'
-/// before the dequeues', and between which positions the vector's words stand afterwards.
-#[derive(Drop)]
-pub struct Plan {
-    /// Positions with the words that are put there.
-    pub puts: Pairs,
-    /// Positions from which words are taken.
-    pub gets: Words,
-    pub head: u64,
-    pub tail: u64,
-}
 
 /// Puts what a call puts last, if it puts a word.
 fn add_put(puts: &mut Vec<(u64, u64)>, ends: Ends, op: Op) -> Result<(), AllocError>
