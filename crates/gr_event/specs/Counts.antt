@@ -26,11 +26,12 @@ waiting_slots (Some (Waits slots)) = Some slots
 waiting_slots (Some (Active count)) = None
 
 -- One more task: it is counted, or its slot waits last.
-abbrev pub enrolled : Option LocalCount → ℕ → LocalCount
-enrolled None slot = Waits (slot ∷ [])
-enrolled (Some (Waits slots)) slot = Waits (slots ++ slot ∷ [])
-enrolled (Some (Active count)) slot = Active (count + 1)
+abbrev pub enrolled : Option LocalCount → ℕ → Option LocalCount
+enrolled None slot = Some (Waits (slot ∷ []))
+enrolled (Some (Waits slots)) slot = Some (Waits (slots ++ slot ∷ []))
+enrolled (Some (Active count)) slot = Some (Active (count + 1))
 
+-- The answer: the scope's home has to be asked where no slot has waited yet.
 abbrev pub enrol_answer : Option LocalCount → Enrol
 enrol_answer None = Ask
 enrol_answer (Some (Waits slots)) = Waiting

@@ -62,7 +62,7 @@ impl LocalCount {
     fn enrol(&mut self, slot: u64) -> Result<Enrol, AllocError>
         requires { unwrap_or (active_count (Some self.old)) 0 < 2 ^ 127 }
         ensures answer { IfOk result (λ answer. answer ≡ enrol_answer (Some self.old)) }
-        ensures ok { OnOk result (self.new ≡ enrolled (Some self.old) slot) }
+        ensures ok { OnOk result (Some self.new ≡ enrolled (Some self.old) slot) }
         ensures err { OnErr result (self.new ≡ self.old) }
     {
         match self {
@@ -80,80 +80,76 @@ impl LocalCount {
 
 /// The first slot that waits at a scope that isn't there. Unchanged where there is no memory.
 fn ask(
-    counts: &mut BTreeMap<ScopeId, LocalCount>,
+    map: &mut BTreeMap<ScopeId, LocalCount>,
     alloc: Global,
     scope: ScopeId,
     slot: u64,
 ) -> Result<Enrol, AllocError>
-    requires { at_scope counts.old.entries scope ≡ None }
-    ensures answer { IfOk result (λ answer.
-        answer ≡ enrol_answer (at_scope counts.old.entries scope)) }
-    ensures ok { OnOk result (at_scope counts.new.entries
-        ≡ put_scope (at_scope counts.old.entries) scope
-        (Some (enrolled (at_scope counts.old.entries scope) slot))) }
-    ensures err { OnErr result (counts.new.entries ≡ counts.old.entries) }
+    requires { at_scope map.old.entries scope ≡ None }
+    ensures answer { IfOk result (λ answer. answer ≡ enrol_answer (at_scope map.old.entries scope)) }
+    ensures ok { OnOk result (at_scope map.new.entries ≡ put_scope (at_scope map.old.entries) scope
+        (enrolled (at_scope map.old.entries scope) slot)) }
+    ensures err { OnErr result (map.new.entries ≡ map.old.entries) }
 {
     let mut slots = Words::new(alloc);
     slots.push(slot)?;
-    put(counts, scope, LocalCount::Waits { slots })?;
+    put(map, scope, LocalCount::Waits { slots })?;
     Ok(Enrol::Ask)
 }
 
 /// One more task at a scope. Unchanged where there is no memory.
 #[tactic(auto, using(crate::proofs::ScopePuts::at_scopes))]
 fn count_one(
-    counts: &mut BTreeMap<ScopeId, LocalCount>,
+    map: &mut BTreeMap<ScopeId, LocalCount>,
     alloc: Global,
     scope: ScopeId,
     slot: u64,
 ) -> Result<Enrol, AllocError>
-    requires { unwrap_or (active_count (at_scope counts.old.entries scope)) 0 < 2 ^ 127 }
-    ensures answer { IfOk result (λ answer.
-        answer ≡ enrol_answer (at_scope counts.old.entries scope)) }
-    ensures ok { OnOk result (at_scope counts.new.entries
-        ≡ put_scope (at_scope counts.old.entries) scope
-        (Some (enrolled (at_scope counts.old.entries scope) slot))) }
-    ensures err { OnErr result (at_scope counts.new.entries ≡ at_scope counts.old.entries) }
+    requires { unwrap_or (active_count (at_scope map.old.entries scope)) 0 < 2 ^ 127 }
+    ensures answer { IfOk result (λ answer. answer ≡ enrol_answer (at_scope map.old.entries scope)) }
+    ensures ok { OnOk result (at_scope map.new.entries ≡ put_scope (at_scope map.old.entries) scope
+        (enrolled (at_scope map.old.entries scope) slot)) }
+    ensures err { OnErr result (at_scope map.new.entries ≡ at_scope map.old.entries) }
 {
-    match counts.get_mut(&scope) {
+    match map.get_mut(&scope) {
         Some(count) => {
             let answer = count.enrol(slot)?;
             Ok(answer)
         }
-        None => ask(counts, alloc, scope, slot),
+        None => ask(map, alloc, scope, slot),
     }
 }
 
 /// The count of a scope that is active.
-fn active_count(counts: &BTreeMap<ScopeId, LocalCount>, scope: ScopeId) -> Option<u128>
-    ensures { result ≡ active_count (at_scope counts.now.entries scope) }
+fn active_count(map: &BTreeMap<ScopeId, LocalCount>, scope: ScopeId) -> Option<u128>
+    ensures { result ≡ active_count (at_scope map.now.entries scope) }
 {
-    match find(counts, scope) {
+    match find(map, scope) {
         Some(LocalCount::Active { count }) => Some(*count),
         _ => None,
     }
 }
 
 /// Whether slots wait at a scope.
-fn has_waiting(counts: &BTreeMap<ScopeId, LocalCount>, scope: ScopeId) -> bool
-    ensures { result ≡ is_some (waiting_slots (at_scope counts.now.entries scope)) }
+fn has_waiting(map: &BTreeMap<ScopeId, LocalCount>, scope: ScopeId) -> bool
+    ensures { result ≡ is_some (waiting_slots (at_scope map.now.entries scope)) }
 {
-    matches!(find(counts, scope), Some(LocalCount::Waits { .. }))
+    matches!(find(map, scope), Some(LocalCount::Waits { .. }))
 }
 
 /// The slots that waited at a scope, which is active from now on with so many tasks.
 #[tactic(auto, using(crate::proofs::ScopePuts::at_scopes))]
-fn activate(counts: &mut BTreeMap<ScopeId, LocalCount>, scope: ScopeId) -> Result<Words, AllocError>
-    requires { IsSome (waiting_slots (at_scope counts.old.entries scope)) }
+fn activate(map: &mut BTreeMap<ScopeId, LocalCount>, scope: ScopeId) -> Result<Words, AllocError>
+    requires { IsSome (waiting_slots (at_scope map.old.entries scope)) }
     ensures slots { IfOk result (λ slots.
-        waiting_slots (at_scope counts.old.entries scope) ≡ Some slots) }
-    ensures rest { OnOk result (at_scope counts.new.entries
-        ≡ put_scope (at_scope counts.old.entries) scope (when_acked (at_scope counts.old.entries scope))) }
+        waiting_slots (at_scope map.old.entries scope) ≡ Some slots) }
+    ensures rest { OnOk result (at_scope map.new.entries ≡ put_scope (at_scope map.old.entries) scope
+        (when_acked (at_scope map.old.entries scope))) }
 {
-    match take(counts, scope) {
+    match take(map, scope) {
         Some(LocalCount::Waits { slots }) => {
             let count = slots.len() as u128;
-            put(counts, scope, LocalCount::Active { count })?;
+            put(map, scope, LocalCount::Active { count })?;
             Ok(slots)
         }
         _ => unreachable!(),
@@ -175,7 +171,8 @@ impl LocalCounts {
     }
 
     fn put(&mut self, scope: ScopeId, count: LocalCount) -> Result<(), AllocError>
-        ensures ok { OnOk result (counts_of self.new ≡ put_scope (counts_of self.old) scope (Some count)) }
+        ensures ok { OnOk result (counts_of self.new
+            ≡ put_scope (counts_of self.old) scope (Some count)) }
         ensures err { OnErr result (counts_of self.new ≡ counts_of self.old) }
     {
         put(&mut self.counts, scope, count)
@@ -212,7 +209,7 @@ impl LocalCounts {
         requires { unwrap_or (active_count (counts_of self.old scope)) 0 < 2 ^ 127 }
         ensures answer { IfOk result (λ answer. answer ≡ enrol_answer (counts_of self.old scope)) }
         ensures ok { OnOk result (counts_of self.new
-            ≡ put_scope (counts_of self.old) scope (Some (enrolled (counts_of self.old scope) slot))) }
+            ≡ put_scope (counts_of self.old) scope (enrolled (counts_of self.old scope) slot)) }
         ensures err { OnErr result (counts_of self.new ≡ counts_of self.old) }
     {
         count_one(&mut self.counts, self.alloc, scope, slot)
@@ -222,7 +219,8 @@ impl LocalCounts {
     /// number.
     pub fn acked(&mut self, scope: ScopeId) -> Result<Words, AllocError>
         requires { IsSome (waiting_slots (counts_of self.old scope)) }
-        ensures slots { IfOk result (λ slots. waiting_slots (counts_of self.old scope) ≡ Some slots) }
+        ensures slots { IfOk result (λ slots.
+            waiting_slots (counts_of self.old scope) ≡ Some slots) }
         ensures rest { OnOk result (counts_of self.new
             ≡ put_scope (counts_of self.old) scope (when_acked (counts_of self.old scope))) }
     {

@@ -1,4 +1,4 @@
-//! How many tasks each scope still waits for: on the core where they started, and by cores at the scope's home.
+//! What each scope still waits for: the tasks that started on this core, and the active cores, at its home.
 #![tactic(auto)]
 
 mod by_scope;

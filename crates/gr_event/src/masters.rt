@@ -123,8 +123,8 @@ impl Masters {
     /// One more core is active in a scope that is there, with fewer than 2^63.
     pub fn enrol(&mut self, scope: ScopeId)
         requires { IsSomeAnd (active_of (masters_of self.old scope)) (λ active. active < 2 ^ 63) }
-        ensures { masters_of self.new
-            ≡ put_scope (masters_of self.old) scope (option_map enrol_one (masters_of self.old scope)) }
+        ensures { masters_of self.new ≡ put_scope (masters_of self.old) scope
+            (option_map enrol_one (masters_of self.old scope)) }
     {
         let master = self.get(scope).unwrap();
         self.set(

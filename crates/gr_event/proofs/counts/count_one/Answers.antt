@@ -13,7 +13,7 @@ on_err (Err e) p = p
 
 pub returns-in_err-answer-in-Some-clause-err : goal.returns-in_err-answer-in-Some-clause-err
 returns-in_err-answer-in-Some-clause-err c =
-    let old = c.args.counts.now.entries in
+    let old = c.args.map.now.entries in
     let test = is_at (scope_cmp c.args.scope) in
     let written = (c.get_mut.follows.holds c.enrol.new.self).0 in
     let before = c.in_err-answer-in-Some.ensures.err in
