@@ -1,0 +1,11 @@
+//! The units of work that wait on a core: its own, and those that others may take.
+#![tactic(auto)]
+
+mod laws;
+mod parts;
+mod work;
+#[cfg(test)]
+mod work_tests;
+
+pub use laws::parts_cover_their_range;
+pub use work::Work;
