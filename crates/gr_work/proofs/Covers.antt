@@ -1,5 +1,5 @@
 -- The parts of a range lie side by side.
-use Rattle.std.proofs.Common.{◌≡◌, ◌∙◌, ap, refl, sym, ℕ, zero, suc, ◌+◌, ◌-◌, ◌<◌, ◌≤◌, Bool, true, false, cond, nat_lt, nat_le, List, [], ◌∷◌, if◌then◌else◌, arith, ltb-true, ltb-false}
+use Rattle.std.proofs.Common.{◌≡◌, ◌∙◌, refl, ℕ, zero, suc, ◌+◌, ◌-◌, ◌<◌, ◌≤◌, Bool, true, false, cond, nat_lt, nat_le, List, [], ◌∷◌, if◌then◌else◌, arith, ltb-true, ltb-false}
 use Rattle.std.proofs.lemmas.Bool.Decides.{nat_tests}
 use Rattle.std.proofs.lemmas.List.Sums.{sum_by-cons}
 use Rattle.std.specs.Prelude.{count_by, ◌&&◌}
@@ -33,7 +33,7 @@ unfolding offered_in kept_in
 covered zero grain lo hi index p = add_none (within lo hi index)
 covered (suc f) grain lo hi index p = cover_if (nat_lt grain (hi - lo)) (kept_in f grain lo (middle lo hi)) lo (middle lo hi) hi index (offered_in f grain lo (middle lo hi))
     (λ t. let l : lo ≤ middle lo hi = omega (arith, middle_is lo hi) in
-      (l, omega (arith, middle_is lo hi), covered f grain lo (middle lo hi) index l))
+    (l, omega (arith, middle_is lo hi), covered f grain lo (middle lo hi) index l))
 
 small_if : (b : Bool) (k grain lo hi : ℕ) → (b ≡ true → (lo < k) × (k - lo ≤ grain)) → (b ≡ false → hi - lo ≤ grain) → lo < hi → (lo < (if b then k else hi)) × ((if b then k else hi) - lo ≤ grain)
 small_if true k grain lo hi h g l = h refl
@@ -44,7 +44,7 @@ unfolding kept_in
 small zero grain lo hi p l g = absurd (omega arith)
 small (suc f) grain lo hi p l g = small_if (nat_lt grain (hi - lo)) (kept_in f grain lo (middle lo hi)) grain lo hi
     (λ t. let w : 1 < hi - lo = omega (arith, ltb-true grain (hi - lo) t) in
-      small f grain lo (middle lo hi) (shorter f lo hi (omega arith) p) ((inside lo hi w).0) g)
+    small f grain lo (middle lo hi) (shorter f lo hi (omega arith) p) ((inside lo hi w).0) g)
     (λ t. omega (arith, ltb-false grain (hi - lo) t)) l
 
 pub parts_cover : PartsCover

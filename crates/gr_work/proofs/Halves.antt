@@ -1,5 +1,5 @@
 -- One halving of a range at a time.
-use Rattle.std.proofs.Common.{◌≡◌, ◌∙◌, ap, refl, sym, ℕ, zero, suc, ◌+◌, ◌-◌, ◌/◌, ◌<◌, ◌≤◌, Bool, true, false, nat_lt, List, [], ◌∷◌, ◌++◌, map, append_assoc, append-nil, if◌then◌else◌, arith, ltb-true, ltb-false}
+use Rattle.std.proofs.Common.{◌≡◌, ◌∙◌, ap, refl, sym, ℕ, zero, suc, ◌+◌, ◌-◌, ◌/◌, ◌<◌, ◌≤◌, Bool, true, false, nat_lt, List, [], ◌∷◌, ◌++◌, map, append_assoc, append-nil, if◌then◌else◌, arith, ltb-true}
 use Rattle.std.proofs.lemmas.Bool.Decides.{nat_tests}
 use Rattle.gr_work.specs.Parts.{Range, middle, offered_in, kept_in, offered, kept_end}
 
@@ -39,7 +39,7 @@ offered_same zero (suc g) grain lo hi p q = sym (choose_false (nat_lt grain (hi 
 offered_same (suc f) zero grain lo hi p q = choose_false (nat_lt grain (hi - lo)) _ _ (is_done grain lo hi (omega arith))
 offered_same (suc f) (suc g) grain lo hi p q = choose (nat_lt grain (hi - lo)) _ _ _ _
     (λ t. let l : 0 < hi - lo = omega (arith, ltb-true grain (hi - lo) t) in
-      ap (λ (rest : List Range). record { from = middle lo hi; to = hi } ∷ rest) (offered_same f g grain lo (middle lo hi) (shorter f lo hi l p) (shorter g lo hi l q)))
+    ap (λ (rest : List Range). record { from = middle lo hi; to = hi } ∷ rest) (offered_same f g grain lo (middle lo hi) (shorter f lo hi l p) (shorter g lo hi l q)))
     (λ t. refl)
 
 kept_same : (f g grain lo hi : ℕ) → hi - lo ≤ f → hi - lo ≤ g → kept_in f grain lo hi ≡ kept_in g grain lo hi

@@ -1,5 +1,5 @@
 -- The two queues of units, and what is taken from them.
-use Rattle.std.specs.Prelude.{◌-◌, List, [], ◌∷◌, length, take, Option, Some, None, Bool, true, false, ◌&&◌}
+use Rattle.std.specs.Prelude.{◌-◌, List, [], ◌∷◌, length, take, Option, Some, None, Bool, true, false}
 use Rattle.std.specs.List.{last_or}
 use Rattle.gr_msg.specs.declared.message.Unit.{Unit as WorkUnit}
 

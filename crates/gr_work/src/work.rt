@@ -131,7 +131,8 @@ impl Work {
         requires { lo ≤ hi }
         ensures end { IfOk result (λ end. end ≡ kept_end grain lo hi) }
         ensures offers { OnOk result (self.new ≡ record self.old {
-            public = self.old.public ++ map (part chunk.now) (offered grain lo hi) }) }
+          public = self.old.public ++ map (part chunk.now) (offered grain lo hi);
+        }) }
     {
         offer_halves(&mut self.public, chunk, lo, hi, grain)
     }

@@ -9,6 +9,7 @@ use std::alloc::Global;
 use std::test::Fail;
 
 const SCOPE: ScopeId = ScopeId { core: 0, number: 1 };
+
 const OWNER: TaskId = TaskId { core: 0, number: 0 };
 
 fn may_move<T: Send>(value: &T) {

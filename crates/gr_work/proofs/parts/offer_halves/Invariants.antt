@@ -7,7 +7,7 @@ abbrev pub invariant-halves : goal.invariant-halves
 invariant-halves l = record {
   some : l.lo ≤ l.end;
   same_end : kept_end l.grain l.lo l.end ≡ kept_end l.grain l.lo l.fn.hi;
-  same_offers : l.units.items ++ map (part l.chunk) (offered l.grain l.lo l.end) ≡ l.fn.units.items ++ map (part l.chunk) (offered l.grain l.lo l.fn.hi)
+  same_offers : l.units.items ++ map (part l.chunk) (offered l.grain l.lo l.end) ≡ l.fn.units.items ++ map (part l.chunk) (offered l.grain l.lo l.fn.hi);
 }
 
 abbrev pub decreases-halves : goal.decreases-halves
