@@ -35,14 +35,23 @@ from reading.tokens import Place, Refused, tokens
 LONG = 10000
 
 
+class Devices(NamedTuple):
+    """A source and a sink that give and take so many bytes a call, of which the call with this number, from 0, fails."""
+    piece: int
+    read: Optional[int] = None
+    write: Optional[int] = None
+
+
 class Row(NamedTuple):
     """A row: its source is pieces, each with the number of times that it is repeated. Without words it is a program that is
-    to be printed and read back. `due` is the answer that is stated, or None where only the reading says it."""
+    to be printed and read back. `due` is the answer that is stated, or None where only the reading says it. Where no devices
+    are said, none of their calls fails."""
     group: str
     words: Optional[Tuple[str, ...]]
     pieces: Tuple[Tuple[bytes, int], ...]
     due: Optional[Answer]
     place: str
+    devices: Optional[Devices] = None
 
     @property
     def source(self):
@@ -203,6 +212,8 @@ def line_of(row, due):
     if row.words is None:
         return json.dumps({"group": row.group, "program": row.source.decode()}) + "\n"
     made = {"group": row.group, "words": list(row.words)}
+    if row.devices is not None:
+        made.update((name, value) for name, value in row.devices._asdict().items() if value is not None)
     if sum(len(text) * times for text, times in row.pieces) > LONG:
         made["pieces"] = [[text.decode(), times] for text, times in row.pieces]
     else:
@@ -223,13 +234,14 @@ def row_of(line, place):
         pieces = tuple((text.encode(), times) for text, times in made["pieces"])
     else:
         pieces = ((made["text"].encode() if "text" in made else bytes.fromhex(made["hex"]), 1),)
-    return Row(made["group"], tuple(made["words"]), pieces, Answer(made["status"], made["output"]), place)
+    devices = Devices(made["piece"], made.get("read"), made.get("write")) if "piece" in made else None
+    return Row(made["group"], tuple(made["words"]), pieces, Answer(made["status"], made["output"]), place, devices)
 
 
 def judged(row):
     """What the reading answers to a row. A program that is to be read back has to be in the grammar."""
     if row.words is not None:
-        return answers.answer(row.words, row.source)
+        return answers.answer(row.words, row.source) if row.devices is None else answers.over(row.words, row.source, *row.devices)
     try:
         program_of(tokens(row.source))
         return None

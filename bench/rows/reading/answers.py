@@ -34,6 +34,25 @@ def answer(words, source):
         return refusal(refused.cause, refused.place)
 
 
+def reads_source(words):
+    """Whether a call with these words reads standard input."""
+    try:
+        return options(words)["command"] != "bench"
+    except Usage:
+        return False
+
+
+def over(words, source, piece, read, write):
+    """The answer where devices give and take so many bytes a call, and the call of each with this number, from 0, fails."""
+    due = answer(words, source)
+    # (the last read finds the end)
+    if read is not None and reads_source(words) and read * piece < len(source) + piece:
+        return Answer(4, "")
+    if write is not None and write * piece < len(due.output):
+        return Answer(5, due.output[:write * piece])
+    return due
+
+
 def refusal(cause, place):
     return told(1, "refused line %d column %d: %s" % (*place, cause))
 

@@ -2,13 +2,14 @@
 
 Where the rule itself says the answer it is stated with the row, and held against the reading as for rows that are stated by
 hand; elsewhere (each prefix of a program, changed histories) only the reading says it."""
-from . import changed, histories, options, pages, programs
+from . import changed, devices, histories, options, pages, programs
 
 
 def rows(root):
     """All rows that come by a rule. `root` is the repository."""
     yield from programs.rows(root)
     yield from options.rows()
+    yield from devices.rows()
     yield from histories.rows()
     yield from changed.rows()
     yield from pages.rows(root)

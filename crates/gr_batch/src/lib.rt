@@ -6,8 +6,6 @@ mod folding;
 mod group;
 mod laws;
 mod shared;
-#[cfg(test)]
-mod tests;
 mod wakes;
 
 pub use combiner::{Batch, Batches, Combiner, Held};

@@ -7,6 +7,7 @@
 
 mod alloc_rows;
 mod call;
+mod check_rows;
 mod cli_rows;
 mod memory_rows;
 mod text_rows;
@@ -21,6 +22,7 @@ fn answers(alloc: Global, row: &Value) -> Result<Option<Vec<String>>, AllocError
         Some("blocks") => alloc_rows::blocks(alloc, row),
         Some("memory") => memory_rows::memory(alloc, row),
         Some("keys") => memory_rows::keys(alloc, row),
+        Some("checks") => check_rows::checks(alloc, row),
         Some("options") => cli_rows::options(alloc, row),
         Some("tokens") => text_rows::tokens(alloc, row),
         Some("places") => text_rows::places(alloc, row),

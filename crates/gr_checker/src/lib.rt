@@ -9,8 +9,6 @@ mod laws;
 mod meanings;
 mod name_set;
 mod scope;
-#[cfg(test)]
-mod tests;
 mod uses;
 mod walk;
 

@@ -2,8 +2,6 @@
 #![tactic(auto)]
 
 mod by_scope;
-#[cfg(test)]
-mod count_tests;
 mod counts;
 mod laws;
 mod masters;

@@ -4,8 +4,6 @@
 mod map_shard;
 mod set_shard;
 mod shared;
-#[cfg(test)]
-mod tests;
 
 pub use map_shard::MapShard;
 pub use set_shard::SetShard;

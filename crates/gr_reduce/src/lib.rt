@@ -5,8 +5,6 @@
 mod reducer;
 mod reducers;
 mod shared;
-#[cfg(test)]
-mod tests;
 
 pub use reducer::Reducer;
 pub use reducers::Reducers;

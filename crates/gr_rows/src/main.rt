@@ -3,7 +3,8 @@
 //!
 //! A row has the words of the command line, the source, and the status and output that are due. The source
 //! is a text, or pieces of text each with the number of times that it is repeated, or bytes in hexadecimal.
-//! Or a row has a program, which is printed, read back and printed again.
+//! Where it says so, one read gives, and one write takes, so many bytes, and the read or the write with a number
+//! fails. Or a row has a program, which is printed, read back and printed again.
 #![tactic(auto)]
 
 mod printed;
@@ -11,24 +12,17 @@ mod row;
 
 use crate::printed::is_read_back;
 use crate::row::Row;
-use gr_io::{MemSink, MemSource};
 use gr_top::top;
 use serde_json::Value;
 use std::alloc::{AllocError, Global};
 use std::io::{BufRead, BufReader};
 
-/// How many bytes a call may write.
-const ROOM: usize = 1 << 16;
-
-/// How many bytes one read gives.
-const PIECE: usize = 4096;
-
 /// Whether the call answers as the row says.
-fn agrees(alloc: Global, row: Row) -> Result<bool, AllocError> {
-    let mut source = MemSource::new(row.source, PIECE, Vec::new(alloc));
-    let mut sink = MemSink::new(alloc, ROOM, PIECE, Vec::new(alloc))?;
+fn agrees(alloc: Global, row: Row) -> bool {
+    let mut source = row.source;
+    let mut sink = row.sink;
     let end = top(alloc, row.words.as_slice(), &mut source, &mut sink);
-    Ok(end.status as u64 == row.status && sink.bytes() == row.output.as_bytes())
+    end.status as u64 == row.status && sink.bytes() == row.output.as_bytes()
 }
 
 fn main(rt: HostRuntime) -> anyhow::Result<()> {
@@ -43,7 +37,7 @@ fn main(rt: HostRuntime) -> anyhow::Result<()> {
         let is_as_it_says = match value.get("program").and_then(Value::as_str) {
             Some(text) => is_read_back(alloc, text.as_bytes())?,
             None => match row::read_row(alloc, &value)? {
-                Some(row) => agrees(alloc, row)?,
+                Some(row) => agrees(alloc, row),
                 None => false,
             },
         };

@@ -1,12 +1,22 @@
 //! A row: a call and what is due.
+ghost use Rattle.std.specs.Prelude.{◌<◌};
+
+use gr_io::{MemSink, MemSource};
 use serde_json::Value;
 use std::alloc::{AllocError, Global};
+
+/// How many bytes a call may write.
+const ROOM: usize = 1 << 16;
+
+/// How many bytes one read gives and one write takes, where a row says nothing.
+const PIECE: u64 = 4096;
 
 /// A call of the program, and the status and output that are due.
 #[derive(Drop)]
 pub struct Row {
     pub words: Vec<String>,
-    pub source: Vec<u8>,
+    pub source: MemSource,
+    pub sink: MemSink,
     pub status: u64,
     pub output: String,
 }
@@ -67,16 +77,37 @@ fn source_of(alloc: Global, value: &Value) -> Result<Option<Vec<u8>>, AllocError
     }
 }
 
+/// The number of this name, if the object has it, as a list.
+fn numbers_of(alloc: Global, value: &Value, name: &str) -> Result<Vec<u64>, AllocError> {
+    let mut numbers = Vec::new(alloc);
+    if let Some(number) = value.get(name).and_then(Value::as_u64) {
+        numbers.push(number)?;
+    }
+    Ok(numbers)
+}
+
+/// How many bytes, 1 or more, one read gives and one write takes.
+fn piece_of(value: &Value) -> usize
+    ensures { 0 < result }
+{
+    let piece = value.get("piece").and_then(Value::as_u64).unwrap_or(PIECE);
+    piece.clamp(1, PIECE) as usize
+}
+
 /// The row that the object says, if it is one.
 pub fn read_row(alloc: Global, value: &Value) -> Result<Option<Row>, AllocError> {
     let words = words_of(alloc, value)?;
     let source = source_of(alloc, value)?;
     let status = value.get("status").and_then(Value::as_u64);
     let output = value.get("output").and_then(Value::as_str);
+    let piece = piece_of(value);
+    let reads = numbers_of(alloc, value, "read")?;
+    let writes = numbers_of(alloc, value, "write")?;
     match (words, source, status, output) {
         (Some(words), Some(source), Some(status), Some(output)) => Ok(Some(Row {
             words,
-            source,
+            source: MemSource::new(source, piece, reads),
+            sink: MemSink::new(alloc, ROOM, piece, writes)?,
             status,
             output: String::from_str(alloc, output)?,
         })),

@@ -11,8 +11,6 @@ mod laws;
 mod reading;
 mod replaying;
 mod straight;
-#[cfg(test)]
-mod tests;
 mod texts;
 
 pub use answer::{Refusal, RunEnd, WorldEnd};

@@ -4,8 +4,6 @@
 mod laws;
 mod parts;
 mod work;
-#[cfg(test)]
-mod work_tests;
 
 pub use laws::parts_cover_their_range;
 pub use work::Work;

@@ -1,0 +1,42 @@
+#!/usr/bin/env python3
+"""Measures the parts of a core: parts.py PROGRAM [LOAD..]. PROGRAM is the built gr_load, a LOAD the name of one of its
+loads, none: all. Prints a table with a row for each load and size; bench/README.md tells what its columns are."""
+import subprocess, sys, time
+
+TURNS = 3
+LOADS = [  # the load, how often in its greater size, and its second number
+    ("units", 1000000, ""), ("indices", 1000000, ""),
+    ("calls", 1000000, 1), ("calls", 1000000, 10), ("calls", 1000000, 10000),
+    ("keys", 1000000, 10000), ("words", 10000000, ""), ("positions", 1000000, ""), ("turns", 1000000, ""),
+    ("scopes", 1000000, ""),
+]
+COLUMNS = ["load", "how often", "seconds", "nanoseconds each", "times the tenth", "what came of it"]
+
+
+def once(program, line):
+    """The seconds of one turn, and what it wrote."""
+    begun = time.monotonic()
+    found = subprocess.run([program], input=line + "\n", stdout=subprocess.PIPE, text=True, check=True)
+    return time.monotonic() - begun, found.stdout.strip().rpartition(": ")[2]
+
+
+def main():
+    known = {load for load, _, _ in LOADS}
+    if len(sys.argv) < 2 or any(name not in known for name in sys.argv[2:]):
+        sys.exit(__doc__)
+    program, names = sys.argv[1], sys.argv[2:] or known
+    print("| %s |\n|%s" % (" | ".join(COLUMNS), "---|" * len(COLUMNS)), flush=True)
+    for load, most, size in LOADS:
+        if load not in names:
+            continue
+        tenth = None
+        for count in (most // 10, most):
+            turns = [once(program, ("%s %d %s" % (load, count, size)).strip()) for _ in range(TURNS)]
+            seconds = min(turn[0] for turn in turns)
+            times = "%.1f" % (seconds / tenth) if tenth else ""
+            tenth = seconds
+            cells = [("`%s %s`" % (load, size)).replace(" `", "`"), count, "%.3f" % seconds, "%.0f" % (seconds * 1e9 / count), times, turns[0][1]]
+            print("| %s |" % " | ".join(map(str, cells)), flush=True)
+
+
+main()
