@@ -1,4 +1,6 @@
 //! A load of the calls on a vector.
+ghost use Rattle.std.specs.Prelude.{◌≡◌, [], OnOk};
+
 use gr_lang::{Op, TaskId, WaitingCall};
 use gr_vector::{VecCombiner, plan};
 use std::alloc::{AllocError, Global};
