@@ -3,6 +3,9 @@ use gr_event::{Enrol, LocalCounts, LocalLeft, Masters, Release, Waiter};
 use gr_msg::ScopeId;
 use std::alloc::{AllocError, Global};
 
+/// The most tasks that are counted.
+const MOST: u128 = 1 << 127;
+
 fn scope(number: u64) -> ScopeId {
     ScopeId { core: 0, number }
 }
@@ -14,9 +17,9 @@ fn open(counts: &mut LocalCounts, masters: &mut Masters, scope: ScopeId) -> Resu
     }
     if masters.active(scope).is_none() {
         masters.start(scope)?;
-        if !masters.waited(scope) {
-            masters.wait(scope, Waiter::Root);
-        }
+    }
+    if masters.active(scope).is_some() && !masters.waited(scope) {
+        masters.wait(scope, Waiter::Root);
     }
     Ok(())
 }
@@ -46,25 +49,30 @@ pub fn scopes(alloc: Global, count: u64) -> Result<String, AllocError> {
     format!(in alloc; "{released} released")
 }
 
-/// Two tasks of a scope that isn't active wait until it is; one more is counted at once.
+/// Enrols one more task, where so many can be counted.
+fn enrol(counts: &mut LocalCounts, scope: ScopeId, slot: u64) -> Result<bool, AllocError> {
+    if counts.count(scope).unwrap_or(0) >= MOST {
+        return Ok(false);
+    }
+    let is_counted = matches!(counts.enrol(scope, slot)?, Enrol::Counted);
+    Ok(is_counted)
+}
+
+/// How many tasks are counted: two that wait until their scope is active, and one that comes after them.
 fn enrol_three(counts: &mut LocalCounts, scope: ScopeId) -> Result<u64, AllocError> {
-    if counts.count(scope).is_some() || counts.waits(scope) {
-        return Ok(0);
+    let mut counted = 0u64;
+    for slot in [4, 7] {
+        if enrol(counts, scope, slot)? {
+            counted = counted.wrapping_add(1);
+        }
     }
-    let first = counts.enrol(scope, 4)?;
-    let second = counts.enrol(scope, 7)?;
-    if !counts.waits(scope) || !matches!((first, second), (Enrol::Ask, Enrol::Waiting)) {
-        return Ok(0);
+    if counts.waits(scope) {
+        counted = counted.wrapping_add(counts.acked(scope)?.len() as u64);
     }
-    let slots = counts.acked(scope)?;
-    let is_in_order = slots.as_slice() == [4, 7].as_slice();
-    if counts.count(scope) != Some(2) || !is_in_order {
-        return Ok(0);
+    if enrol(counts, scope, 9)? {
+        counted = counted.wrapping_add(1);
     }
-    match counts.enrol(scope, 9)? {
-        Enrol::Counted => Ok(3),
-        _ => Ok(0),
-    }
+    Ok(counted)
 }
 
 /// Three tasks are enrolled in each of so many scopes.

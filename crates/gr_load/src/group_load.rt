@@ -1,5 +1,5 @@
 //! A load of the calls on a vector.
-ghost use Rattle.std.specs.Prelude.{◌≡◌, [], OnOk};
+ghost use Rattle.std.specs.Prelude.{◌≡◌};
 
 use gr_lang::{Op, TaskId, WaitingCall};
 use gr_vector::{VecCombiner, plan};
@@ -16,10 +16,8 @@ fn waiting(slot: u64, op: Op) -> WaitingCall
 }
 
 /// How many words a group of two pushes, a pop and a dequeue puts, and how many it takes.
-fn planned(alloc: Global, combiner: &mut VecCombiner, word: u64) -> Result<(usize, usize), AllocError>
-    requires { combiner.old ≡ [] }
-    ensures { OnOk result (combiner.new ≡ []) }
-{
+fn planned(alloc: Global, word: u64) -> Result<(usize, usize), AllocError> {
+    let mut combiner = VecCombiner::new(alloc);
     combiner.join(waiting(0, Op::Push { object: 3, word }))?;
     combiner.join(waiting(1, Op::Pop { object: 3 }))?;
     combiner.join(waiting(2, Op::Push { object: 3, word }))?;
@@ -31,11 +29,10 @@ fn planned(alloc: Global, combiner: &mut VecCombiner, word: u64) -> Result<(usiz
 
 /// So many groups of four calls are closed and planned.
 pub fn groups(alloc: Global, count: u64) -> Result<String, AllocError> {
-    let mut combiner = VecCombiner::new(alloc);
     let mut puts = 0usize;
     let mut gets = 0usize;
     for word in 0..count {
-        let made = planned(alloc, &mut combiner, word)?;
+        let made = planned(alloc, word)?;
         puts = puts.wrapping_add(made.0);
         gets = gets.wrapping_add(made.1);
     }
