@@ -1,0 +1,9 @@
+pub mod Numbers
+pub mod Grows
+pub mod Agree
+pub mod Emits
+pub mod Lowers
+pub mod Entries
+pub mod Reaches
+pub mod Words
+pub mod Worked

@@ -1,0 +1,4 @@
+pub mod States
+pub mod Rows
+-- For proofs and private functions.
+pub mod TurnWords
