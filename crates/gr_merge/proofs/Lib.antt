@@ -1,0 +1,10 @@
+pub mod Queues
+pub mod LocalFolds
+pub mod GlobalFolds
+pub mod Joins
+pub mod Rising
+pub mod Merging
+pub mod Orders
+pub mod Marks
+pub mod Theorem
+pub mod Totals

@@ -1,0 +1,134 @@
+-- The merge of lists: each core's in its order, and clocks that don't fall.
+use Rattle.std.proofs.Common.{◌≡◌, ℕ, zero, suc, ◌+◌, ◌<◌, ◌≤◌, ◌==◌, true, false, if◌then◌else◌, map, List, [], ◌∷◌, slice_index_or, ◌∙◌, add-zero, zero-add, refl, sym, ap, inl, inr, arith, eq-eqb, ne_eqb}
+use Rattle.std.proofs.lemmas.Bool.{cases_eq}
+use Rattle.std.proofs.lemmas.Bool.Decides.{nat_tests}
+use Rattle.std.specs.List.Sorted.{IsNonDecreasingBy}
+use Rattle.gr_merge.specs.Merges.{goes_first, merge_two, merge_from, merge, at_core}
+use Rattle.gr_merge.proofs.Rising.{either, Each, Rises, below_less, rises_from, rises_to}
+
+-- What a core has of a list.
+
+pub core_own : {X : Type 0} (k : ℕ) (y : ℕ × X) (ys : List (ℕ × X)) → k ≡ y.0 → at_core k (y ∷ ys) ≡ y.1 ∷ at_core k ys
+core_own k y ys e = ap (λ b. if b then y.1 ∷ at_core k ys else at_core k ys) (eq-eqb k y.0 e)
+
+pub core_other : {X : Type 0} (k : ℕ) (y : ℕ × X) (ys : List (ℕ × X)) → (k ≡ y.0 → ⊥) → at_core k (y ∷ ys) ≡ at_core k ys
+core_other k y ys n = ap (λ b. if b then y.1 ∷ at_core k ys else at_core k ys) (ne_eqb k y.0 n)
+
+-- Its lists are as before where the tails' are.
+core_more : {X : Type 0} (k : ℕ) (y : ℕ × X) (xs ys : List (ℕ × X)) → at_core k xs ≡ at_core k ys → at_core k (y ∷ xs) ≡ at_core k (y ∷ ys)
+core_more k y xs ys h = ap (λ zs. if k == y.0 then y.1 ∷ zs else zs) h
+
+core_none : {X : Type 0} (k : ℕ) (y : ℕ × X) (ys : List (ℕ × X)) → at_core k (y ∷ ys) ≡ [] → (k ≡ y.0 → ⊥) × (at_core k ys ≡ [])
+core_none k y ys h = elim (cases_eq k y.0) [
+  | inl e ↦ let q : y.1 ∷ at_core k ys ≡ [] = sym (core_own k y ys e) ∙ h in absurd (cc)
+  | inr n ↦ (n, sym (core_other k y ys n) ∙ h)
+]
+
+pub each_own : {X : Type 0} (P : ℕ × X → Type 0) (Q : X → Type 0) (n : ℕ) → ((x : X) → Q x → P (n, x)) → (xs : List X) → Each Q xs → Each P (map (λ x. (n, x)) xs)
+each_own P Q n f [] h = tt
+each_own P Q n f (x ∷ xs) h = (f x h.0, each_own P Q n f xs h.1)
+
+module _ {X : Type 0} (clock : X → ℕ) where
+  abbrev pub time : ℕ × X → ℕ
+  time y = clock y.1
+
+  pub not_first : (x y : ℕ × X) → goes_first clock y x ≡ false → time x ≤ time y
+  not_first x y h = grind (arith, nat_tests)
+
+  pub is_first : (x y : ℕ × X) → goes_first clock y x ≡ true → time y ≤ time x
+  is_first x y h = grind (arith, nat_tests)
+
+  -- What holds of each of two lists holds of each of their merge.
+  each_merge_two-cons : (P : ℕ × X → Type 0) (x : ℕ × X) (xs : List (ℕ × X)) → Each P (x ∷ xs)
+      → ((ys : List (ℕ × X)) → Each P ys → Each P (merge_two clock xs ys))
+      → (ys : List (ℕ × X)) → Each P ys → Each P (merge_two clock (x ∷ xs) ys)
+  each_merge_two-cons P x xs h ih [] k = h
+  each_merge_two-cons P x xs h ih (y ∷ ys) k =
+      either (Each P) (goes_first clock y x) (y ∷ merge_two clock (x ∷ xs) ys) (x ∷ merge_two clock xs (y ∷ ys))
+      (λ _. (k.0, each_merge_two-cons P x xs h ih ys k.1)) (λ _. (h.0, ih (y ∷ ys) k))
+
+  pub each_merge_two : (P : ℕ × X → Type 0) (xs ys : List (ℕ × X)) → Each P xs → Each P ys → Each P (merge_two clock xs ys)
+  each_merge_two P [] ys h k = k
+  each_merge_two P (x ∷ xs) ys h k = each_merge_two-cons P x xs h (λ zs u. each_merge_two P xs zs h.1 u) ys k
+
+  two_rise-cons : (x : ℕ × X) (xs : List (ℕ × X)) → Rises time (x ∷ xs)
+      → ((ys : List (ℕ × X)) → Rises time ys → Rises time (merge_two clock xs ys))
+      → (ys : List (ℕ × X)) → Rises time ys → Rises time (merge_two clock (x ∷ xs) ys)
+  two_rise-cons x xs h ih [] k = h
+  two_rise-cons x xs h ih (y ∷ ys) k =
+      either (Rises time) (goes_first clock y x) (y ∷ merge_two clock (x ∷ xs) ys) (x ∷ merge_two clock xs (y ∷ ys))
+      (λ f. let le = is_first x y f in
+      (each_merge_two (λ z. time y ≤ time z) (x ∷ xs) ys (le, below_less time (time y) (time x) xs le h.0) k.0, two_rise-cons x xs h ih ys k.1))
+      (λ f. let le = not_first x y f in
+      (each_merge_two (λ z. time x ≤ time z) xs (y ∷ ys) h.0 (le, below_less time (time x) (time y) ys le k.0), ih (y ∷ ys) k))
+
+  pub two_rise : (xs ys : List (ℕ × X)) → Rises time xs → Rises time ys → Rises time (merge_two clock xs ys)
+  two_rise [] ys h k = k
+  two_rise (x ∷ xs) ys h k = two_rise-cons x xs h (λ zs u. two_rise xs zs h.1 u) ys k
+
+  -- A core has what it has in one of the two lists alone.
+  first_alone-cons : (k : ℕ) (x : ℕ × X) (xs : List (ℕ × X))
+      → ((ys : List (ℕ × X)) → at_core k ys ≡ [] → at_core k (merge_two clock xs ys) ≡ at_core k xs)
+      → (ys : List (ℕ × X)) → at_core k ys ≡ [] → at_core k (merge_two clock (x ∷ xs) ys) ≡ at_core k (x ∷ xs)
+  first_alone-cons k x xs ih [] h = refl
+  first_alone-cons k x xs ih (y ∷ ys) h =
+      either (λ l. at_core k l ≡ at_core k (x ∷ xs)) (goes_first clock y x) (y ∷ merge_two clock (x ∷ xs) ys) (x ∷ merge_two clock xs (y ∷ ys))
+      (λ _. let n = core_none k y ys h in core_other k y (merge_two clock (x ∷ xs) ys) n.0 ∙ first_alone-cons k x xs ih ys n.1)
+      (λ _. core_more k x (merge_two clock xs (y ∷ ys)) xs (ih (y ∷ ys) h))
+
+  first_alone : (k : ℕ) (xs ys : List (ℕ × X)) → at_core k ys ≡ [] → at_core k (merge_two clock xs ys) ≡ at_core k xs
+  first_alone k [] ys h = h
+  first_alone k (x ∷ xs) ys h = first_alone-cons k x xs (λ zs u. first_alone k xs zs u) ys h
+
+  second_alone-cons : (k : ℕ) (x : ℕ × X) (xs : List (ℕ × X)) → at_core k (x ∷ xs) ≡ []
+      → ((ys : List (ℕ × X)) → at_core k (merge_two clock xs ys) ≡ at_core k ys)
+      → (ys : List (ℕ × X)) → at_core k (merge_two clock (x ∷ xs) ys) ≡ at_core k ys
+  second_alone-cons k x xs h ih [] = h
+  second_alone-cons k x xs h ih (y ∷ ys) =
+      either (λ l. at_core k l ≡ at_core k (y ∷ ys)) (goes_first clock y x) (y ∷ merge_two clock (x ∷ xs) ys) (x ∷ merge_two clock xs (y ∷ ys))
+      (λ _. core_more k y (merge_two clock (x ∷ xs) ys) ys (second_alone-cons k x xs h ih ys))
+      (λ _. core_other k x (merge_two clock xs (y ∷ ys)) (core_none k x xs h).0 ∙ ih (y ∷ ys))
+
+  second_alone : (k : ℕ) (xs ys : List (ℕ × X)) → at_core k xs ≡ [] → at_core k (merge_two clock xs ys) ≡ at_core k ys
+  second_alone k [] ys h = refl
+  second_alone k (x ∷ xs) ys h = second_alone-cons k x xs h (λ zs. second_alone k xs zs (core_none k x xs h).1) ys
+
+  core_list : (n : ℕ) (xs : List X) → at_core n (map (λ x. (n, x)) xs) ≡ xs
+  core_list n [] = refl
+  core_list n (x ∷ xs) = core_own n (n, x) (map (λ x. (n, x)) xs) refl ∙ ap (λ ys. x ∷ ys) (core_list n xs)
+
+  others_list : (n k : ℕ) (xs : List X) → (k ≡ n → ⊥) → at_core k (map (λ x. (n, x)) xs) ≡ []
+  others_list n k [] h = refl
+  others_list n k (x ∷ xs) h = core_other k (n, x) (map (λ x. (n, x)) xs) h ∙ others_list n k xs h
+
+  earlier_none : (n k : ℕ) (lists : List (List X)) → k < n → at_core k (merge_from clock n lists) ≡ []
+  earlier_none n k [] h = refl
+  earlier_none n k (list ∷ lists) h =
+      first_or_second (others_list n k list (λ e. absurd (omega (arith, h, e)))) (earlier_none (n + 1) k lists (omega (arith, h)))
+    where
+      first_or_second : at_core k (map (λ x. (n, x)) list) ≡ [] → at_core k (merge_from clock (n + 1) lists) ≡ [] → at_core k (merge_from clock n (list ∷ lists)) ≡ []
+      first_or_second a b = second_alone k (map (λ x. (n, x)) list) (merge_from clock (n + 1) lists) a ∙ b
+
+  from_core : (n k : ℕ) (lists : List (List X)) → at_core (n + k) (merge_from clock n lists) ≡ slice_index_or lists k []
+  from_core n k [] = refl
+  from_core n zero (list ∷ lists) =
+      ap (λ j. at_core j (merge_from clock n (list ∷ lists))) (add-zero n)
+      ∙ first_alone n (map (λ x. (n, x)) list) (merge_from clock (n + 1) lists) (earlier_none (n + 1) n lists (omega arith)) ∙ core_list n list
+  from_core n (suc k) (list ∷ lists) =
+      second_alone (n + suc k) (map (λ x. (n, x)) list) (merge_from clock (n + 1) lists) (others_list n (n + suc k) list (λ e. absurd (omega (arith, e))))
+      ∙ (let e : n + suc k ≡ n + 1 + k = omega arith in ap (λ j. at_core j (merge_from clock (n + 1) lists)) e) ∙ from_core (n + 1) k lists
+
+  pub merge_core : (lists : List (List X)) (k : ℕ) → at_core k (merge clock lists) ≡ slice_index_or lists k []
+  merge_core lists k = ap (λ j. at_core j (merge clock lists)) (sym (zero-add k)) ∙ from_core 0 k lists
+
+  pub own_rise : (n : ℕ) (xs : List X) → Rises clock xs → Rises time (map (λ x. (n, x)) xs)
+  own_rise n [] h = tt
+  own_rise n (x ∷ xs) h = (each_own (λ y. clock x ≤ time y) (λ y. clock x ≤ clock y) n (λ y l. l) xs h.0, own_rise n xs h.1)
+
+  pub from_rises : (n : ℕ) (lists : List (List X)) → ((k : ℕ) → Rises clock (slice_index_or lists k [])) → Rises time (merge_from clock n lists)
+  from_rises n [] h = tt
+  from_rises n (list ∷ lists) h =
+      two_rise (map (λ x. (n, x)) list) (merge_from clock (n + 1) lists) (own_rise n list (h 0)) (from_rises (n + 1) lists (λ k. h (suc k)))
+
+  pub merge_rises : (lists : List (List X)) → ((k : ℕ) → IsNonDecreasingBy clock (slice_index_or lists k [])) → IsNonDecreasingBy time (merge clock lists)
+  merge_rises lists h = rises_to time (merge clock lists) (from_rises 0 lists (λ k. rises_from clock (slice_index_or lists k []) (h k)))

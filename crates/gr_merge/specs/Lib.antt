@@ -1,0 +1,6 @@
+pub mod Machines
+pub mod LocalRuns
+pub mod GlobalRuns
+pub mod Merges
+pub mod Laws
+pub mod Rows
