@@ -3,8 +3,10 @@ pub mod LocalFolds
 pub mod GlobalFolds
 pub mod Joins
 pub mod Rising
-pub mod Merging
+pub mod InOrder
 pub mod Orders
 pub mod Marks
 pub mod Theorem
 pub mod Totals
+pub mod Taking
+pub mod GoingOn

@@ -6,7 +6,7 @@ use Rattle.gr_merge.specs.Machines.{Marked, entries_in, marks_in}
 use Rattle.gr_merge.specs.GlobalRuns.{of_core, steps_in, all_marks}
 use Rattle.gr_merge.specs.Merges.{goes_first, merge_two, merge_from}
 use Rattle.gr_merge.proofs.Rising.{either, Each, each_of, NotBelow, Rises}
-use Rattle.gr_merge.proofs.Merging.{not_first, each_merge_two, each_own, own_rise, from_rises}
+use Rattle.gr_merge.proofs.InOrder.{not_first, each_merge_two, each_own, own_rise, from_rises}
 
 each_append : {X : Type 0} (P : X → Type 0) (xs ys : List X) → Each P xs → Each P ys → Each P (xs ++ ys)
 each_append P [] ys h k = k

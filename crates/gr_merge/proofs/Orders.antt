@@ -13,7 +13,7 @@ use Rattle.gr_merge.specs.Merges.{at_core}
 use Rattle.gr_merge.specs.Laws.{IsClocked, IsMatched}
 use Rattle.gr_merge.proofs.Queues.{put_self, pair_split, pair_same, pair_other}
 use Rattle.gr_merge.proofs.Rising.{NotBelow, Rises, rises_from}
-use Rattle.gr_merge.proofs.Merging.{core_own, core_other}
+use Rattle.gr_merge.proofs.InOrder.{core_own, core_other}
 
 -- Steps that ship nothing, and steps that ship.
 

@@ -8,7 +8,7 @@ use Rattle.gr_merge.specs.GlobalRuns.{World, opening, fold_global, steps_in, all
 use Rattle.gr_merge.specs.Merges.{merge}
 use Rattle.gr_merge.specs.Laws.{IsClocked, IsMatched}
 use Rattle.gr_merge.proofs.Rising.{Each, NotBelow, Rises, below_less}
-use Rattle.gr_merge.proofs.Merging.{merge_core, from_rises}
+use Rattle.gr_merge.proofs.InOrder.{merge_core, from_rises}
 use Rattle.gr_merge.proofs.LocalFolds.{fold_runs}
 use Rattle.gr_merge.proofs.GlobalFolds.{global_folded}
 use Rattle.gr_merge.proofs.Orders.{quiet_step, shipping_step, entry_clock, merges}

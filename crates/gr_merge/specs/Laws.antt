@@ -1,10 +1,11 @@
 -- The laws of merges, of local runs and of global runs.
 use Rattle.std.specs.Prelude.{◌≡◌, ℕ, ◌<◌, All, List, [], ◌∷◌, ◌++◌, length, slice_index_or, Option, Some, None}
-use Rattle.std.specs.List.Sorted.{IsNonDecreasingBy}
+use Rattle.std.specs.Option.{option_and_then}
+use Rattle.std.specs.List.Sorted.{IsNonDecreasingBy, IsSortedBy}
 use Rattle.gr_merge.specs.Machines.{inner, takes, ships, Went, Machine, with_last, Marked, entries_in, marks_in}
-use Rattle.gr_merge.specs.LocalRuns.{starts, ended, fold_local, LocalRun}
+use Rattle.gr_merge.specs.LocalRuns.{Came, starts, ended, fold_local, LocalRun}
 use Rattle.gr_merge.specs.GlobalRuns.{World, opening, fold_global, GlobalRun, steps_in, all_marks}
-use Rattle.gr_merge.specs.Merges.{merge, at_core}
+use Rattle.gr_merge.specs.Merges.{goes_first, merge, at_core}
 
 -- Merges.
 
@@ -12,7 +13,12 @@ use Rattle.gr_merge.specs.Merges.{merge, at_core}
 abbrev pub MergesKeepLists : Type 0 → Type 0
 MergesKeepLists X = (clock : X → ℕ) (lists : List (List X)) (core : ℕ) → at_core core (merge clock lists) ≡ slice_index_or lists core []
 
--- Where the clocks of no list fall, those of the merge don't.
+-- Where the clocks of no list fall, none of the merge stands before the one before it, by clock and then by core.
+abbrev pub MergesAreSorted : Type 0 → Type 0
+MergesAreSorted X = (clock : X → ℕ) (lists : List (List X)) → ((core : ℕ) → IsNonDecreasingBy clock (slice_index_or lists core []))
+    → IsSortedBy (goes_first clock) (merge clock lists)
+
+-- Nor do the clocks of the merge fall then.
 abbrev pub MergesRise : Type 0 → Type 0
 MergesRise X = (clock : X → ℕ) (lists : List (List X)) → ((core : ℕ) → IsNonDecreasingBy clock (slice_index_or lists core []))
     → IsNonDecreasingBy (λ step. clock step.1) (merge clock lists)
@@ -43,6 +49,16 @@ abbrev pub GlobalRunsAreFolds : (State Entry Packet Mark : Type 0) → Type 0
 GlobalRunsAreFolds State Entry Packet Mark = (machine : Machine State Entry Packet Mark) (states ends : ℕ → State) (left : ℕ → ℕ → List Packet) (entries : List (ℕ × Marked Entry Mark))
     → GlobalRun machine states (λ origin dest. []) entries ends left
     → fold_global machine (opening states) (steps_in entries) ≡ Some (record { states = ends; transit = left; marks = all_marks entries })
+
+-- A fold over entries goes on over more.
+abbrev pub LocalFoldsGoOn : (State Entry Packet Mark : Type 0) → Type 0
+LocalFoldsGoOn State Entry Packet Mark = (machine : Machine State Entry Packet Mark) (core : ℕ) (came : Came State Packet Mark) (entries more : List Entry)
+    → fold_local machine core came (entries ++ more) ≡ option_and_then (λ next. fold_local machine core next more) (fold_local machine core came entries)
+
+-- A fold over steps goes on over more.
+abbrev pub GlobalFoldsGoOn : (State Entry Packet Mark : Type 0) → Type 0
+GlobalFoldsGoOn State Entry Packet Mark = (machine : Machine State Entry Packet Mark) (world : World State Packet Mark) (steps more : List (ℕ × Entry))
+    → fold_global machine world (steps ++ more) ≡ option_and_then (λ next. fold_global machine next more) (fold_global machine world steps)
 
 -- One local run after another.
 

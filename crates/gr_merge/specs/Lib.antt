@@ -4,3 +4,5 @@ pub mod GlobalRuns
 pub mod Merges
 pub mod Laws
 pub mod Rows
+-- For proofs and private functions.
+pub mod MergeWords

@@ -2,9 +2,11 @@
 ghost use Rattle.gr_merge.specs.Laws as laws;
 ghost use Rattle.gr_merge.specs.Rows as rows;
 
-/// A merge has the list of each core in its order, and its clocks do not fall where those of no list do.
+/// A merge has the list of each core in its order. Where the clocks of no list fall, it is in order by clock and then
+/// by core, and so its clocks don't fall.
 pub fn merges_are_in_order<T>()
     ensures lists { laws.MergesKeepLists T }
+    ensures sorted { laws.MergesAreSorted T }
     ensures clocks { laws.MergesRise T }
 {}
 
@@ -14,6 +16,12 @@ pub fn folds_are_runs<S, E, P, M>()
     ensures local_back { laws.LocalRunsAreFolds S E P M }
     ensures global { laws.FoldsAreGlobalRuns S E P M }
     ensures global_back { laws.GlobalRunsAreFolds S E P M }
+{}
+
+/// A fold goes on over more entries, or over more steps.
+pub fn folds_go_on<S, E, P, M>()
+    ensures local { laws.LocalFoldsGoOn S E P M }
+    ensures global { laws.GlobalFoldsGoOn S E P M }
 {}
 
 /// A local run goes on with another, and with one more entry.

@@ -2,8 +2,12 @@
 #![tactic(auto)]
 
 mod laws;
+#[cfg(test)]
+mod merge_tests;
+mod merging;
 
 pub use laws::{
-    folds_are_runs, journals_grow, machine_rows, merge_rows, merges_are_global_runs,
+    folds_are_runs, folds_go_on, journals_grow, machine_rows, merge_rows, merges_are_global_runs,
     merges_are_in_order, orders_are_global_runs, refused_rows,
 };
+pub use merging::{Clocked, merge};

@@ -1,10 +1,11 @@
 -- The merge of lists: each core's in its order, and clocks that don't fall.
-use Rattle.std.proofs.Common.{◌≡◌, ℕ, zero, suc, ◌+◌, ◌<◌, ◌≤◌, ◌==◌, true, false, if◌then◌else◌, map, List, [], ◌∷◌, slice_index_or, ◌∙◌, add-zero, zero-add, refl, sym, ap, inl, inr, arith, eq-eqb, ne_eqb}
+use Rattle.std.proofs.Common.{◌≡◌, ℕ, zero, suc, ◌+◌, ◌<◌, ◌≤◌, ◌==◌, true, false, if◌then◌else◌, map, List, [], ◌∷◌, slice_index_or, ◌∙◌, add-zero, zero-add, refl, sym, subst, ap, inl, inr, arith, eq-eqb, ne_eqb}
 use Rattle.std.proofs.lemmas.Bool.{cases_eq}
 use Rattle.std.proofs.lemmas.Bool.Decides.{nat_tests}
-use Rattle.std.specs.List.Sorted.{IsNonDecreasingBy}
+use Rattle.std.specs.Prelude.{⊤, length}
+use Rattle.std.specs.List.Sorted.{IsNonDecreasingBy, IsSortedBy}
 use Rattle.gr_merge.specs.Merges.{goes_first, merge_two, merge_from, merge, at_core}
-use Rattle.gr_merge.proofs.Rising.{either, Each, Rises, below_less, rises_from, rises_to}
+use Rattle.gr_merge.proofs.Rising.{either, Each, each_of, Rises, below_less, rises_from, rises_to}
 
 -- What a core has of a list.
 
@@ -132,3 +133,61 @@ module _ {X : Type 0} (clock : X → ℕ) where
 
   pub merge_rises : (lists : List (List X)) → ((k : ℕ) → IsNonDecreasingBy clock (slice_index_or lists k [])) → IsNonDecreasingBy time (merge clock lists)
   merge_rises lists h = rises_to time (merge clock lists) (from_rises 0 lists (λ k. rises_from clock (slice_index_or lists k []) (h k)))
+
+  -- By clock, then by core.
+
+  abbrev NotBefore : ℕ × X → List (ℕ × X) → Type 0
+  NotBefore x = Each (λ y. goes_first clock y x ≡ false)
+
+  abbrev Sorted : List (ℕ × X) → Type 0
+  Sorted [] = ⊤
+  Sorted (x ∷ xs) = NotBefore x xs × Sorted xs
+
+  not_both : (x y : ℕ × X) → goes_first clock y x ≡ true → goes_first clock x y ≡ false
+  not_both x y h = grind (arith, nat_tests)
+
+  not_before_next : (x y z : ℕ × X) → goes_first clock y x ≡ false → goes_first clock z y ≡ false → goes_first clock z x ≡ false
+  not_before_next x y z h k = grind (arith, nat_tests)
+
+  later_own : (n : ℕ) (x y : X) → clock x ≤ clock y → goes_first clock (n, y) (n, x) ≡ false
+  later_own n x y h = grind (arith, nat_tests)
+
+  not_before_either : (x y : ℕ × X) (ys : List (ℕ × X)) → goes_first clock y x ≡ false → NotBefore y ys → NotBefore x ys
+  not_before_either x y ys h = each_of (λ z. goes_first clock z y ≡ false) (λ z. goes_first clock z x ≡ false) (λ z k. not_before_next x y z h k) ys
+
+  two_sorted-cons : (x : ℕ × X) (xs : List (ℕ × X)) → Sorted (x ∷ xs)
+      → ((ys : List (ℕ × X)) → Sorted ys → Sorted (merge_two clock xs ys))
+      → (ys : List (ℕ × X)) → Sorted ys → Sorted (merge_two clock (x ∷ xs) ys)
+  two_sorted-cons x xs h ih [] k = h
+  two_sorted-cons x xs h ih (y ∷ ys) k =
+      either Sorted (goes_first clock y x) (y ∷ merge_two clock (x ∷ xs) ys) (x ∷ merge_two clock xs (y ∷ ys))
+      (λ f. let n = not_both x y f in
+      (each_merge_two (λ z. goes_first clock z y ≡ false) (x ∷ xs) ys (n, not_before_either y x xs n h.0) k.0, two_sorted-cons x xs h ih ys k.1))
+      (λ f. (each_merge_two (λ z. goes_first clock z x ≡ false) xs (y ∷ ys) h.0 (f, not_before_either x y ys f k.0), ih (y ∷ ys) k))
+
+  two_sorted : (xs ys : List (ℕ × X)) → Sorted xs → Sorted ys → Sorted (merge_two clock xs ys)
+  two_sorted [] ys h k = k
+  two_sorted (x ∷ xs) ys h k = two_sorted-cons x xs h (λ zs u. two_sorted xs zs h.1 u) ys k
+
+  own_sorted : (n : ℕ) (xs : List X) → Rises clock xs → Sorted (map (λ x. (n, x)) xs)
+  own_sorted n [] h = tt
+  own_sorted n (x ∷ xs) h = (each_own (λ y. goes_first clock y (n, x) ≡ false) (λ y. clock x ≤ clock y) n (λ y l. later_own n x y l) xs h.0, own_sorted n xs h.1)
+
+  from_sorted : (n : ℕ) (lists : List (List X)) → ((k : ℕ) → Rises clock (slice_index_or lists k [])) → Sorted (merge_from clock n lists)
+  from_sorted n [] h = tt
+  from_sorted n (list ∷ lists) h =
+      two_sorted (map (λ x. (n, x)) list) (merge_from clock (n + 1) lists) (own_sorted n list (h 0)) (from_sorted (n + 1) lists (λ k. h (suc k)))
+
+  adjacent : (xs : List (ℕ × X)) → Sorted xs → (k : ℕ) (d : ℕ × X) → suc k < length xs → goes_first clock (slice_index_or xs (suc k) d) (slice_index_or xs k d) ≡ false
+  adjacent [] h k d l = absurd (omega (arith, l))
+  adjacent (x ∷ []) h k d l = absurd (omega (arith, l))
+  adjacent (x ∷ y ∷ xs) h zero d l = h.0.0
+  adjacent (x ∷ y ∷ xs) h (suc k) d l = adjacent (y ∷ xs) h.1 k d (omega (arith, l))
+
+  next_is : (k : ℕ) → suc k ≡ k + 1
+  next_is k = omega arith
+
+  pub merge_sorted : (lists : List (List X)) → ((k : ℕ) → IsNonDecreasingBy clock (slice_index_or lists k [])) → IsSortedBy (goes_first clock) (merge clock lists)
+  merge_sorted lists h k d above within =
+      subst (λ j. goes_first clock (slice_index_or (merge clock lists) j d) (slice_index_or (merge clock lists) k d) ≡ false) (next_is k)
+      (adjacent (merge clock lists) (from_sorted 0 lists (λ j. rises_from clock (slice_index_or lists j []) (h j))) k d (omega (arith, within)))
