@@ -8,7 +8,7 @@ use Rattle.gr_view.proofs.Puts.{put_at}
 use Rattle.gr_merge.specs.Machines.{Kind, inner, takes, ships, Went, Machine, inner_step, take_step, ship_step, with_first, with_last, Marked, entries_in, marks_in}
 use Rattle.gr_merge.specs.LocalRuns.{Came, starts, ended, came_with, comes_at, fold_local, LocalAt, LocalRun}
 use Rattle.gr_merge.specs.Laws.{joined}
-use Rattle.gr_merge.proofs.Queues.{put_undo, put_whole, joined_nothing, joined_last, then_map, then_first}
+use Rattle.gr_merge.proofs.Queues.{put_undo, put_whole, joined_nothing, joined_last, joined_next, then_map, then_first}
 
 -- Lists of marks, one after another.
 pub noted_next : {M : Type 0} (before went noted rest : List M) → went ≡ noted → before ++ went ++ rest ≡ before ++ (noted ++ rest)
@@ -83,7 +83,7 @@ module _ {S E P M : Type 0} (machine : Machine S E P M) (core : ℕ) where
         noted = w.0.0.marks;
         entries = r.entries;
         same = r.same;
-        all_sent = sym (joined_last came.shipped r.sent dest w.0.1) ∙ r.all_sent;
+        all_sent = joined_next came.shipped r.sent dest w.0.1 end.shipped r.all_sent;
         all_noted = noted_before came.marks w.0.0.marks (marks_in r.entries) end.marks r.all_noted;
         runs = (
           w.0.0,

@@ -57,19 +57,19 @@ module _ {S E P M : Type 0} (machine : Machine S E P M) (time : S → ℕ) (note
   abbrev Late : ℕ → (ℕ → List P) → Type 0
   Late c sent = (dest : ℕ) (packet : P) (packets : List P) → sent dest ≡ packet ∷ packets → c ≤ machine.stamp packet
 
-  late_at : (kind : Kind) (core : ℕ) (state end : S) (received sent : ℕ → List P) (x : Marked E M) (xs : List (Marked E M)) (c : ℕ) → c ≤ entry_clock x
+  late_at : (kind : Kind) (core : ℕ) (state end : S) (received sent : ℕ → List P) (x : Marked E M) (xs : List (Marked E M)) (c : ℕ) → machine.kind x.0 ≡ kind → c ≤ entry_clock x
       → ((state : S) (received sent : ℕ → List P) → LocalRun machine core state received sent xs end → Late c sent)
       → LocalAt machine kind core state received sent x (λ next untaken unsent. LocalRun machine core next untaken unsent xs end)
       → Late c sent
-  late_at inner core state end received sent x xs c h ih l dest packet packets q = ih l.0.state received sent l.3 dest packet packets q
-  late_at (takes origin) core state end received sent x xs c h ih l dest packet packets q = ih l.0.state (put received origin l.2) sent l.6 dest packet packets q
-  late_at (ships other) core state end received sent x xs c h ih l dest packet packets q = elim (cases_eq dest other) [
+  late_at inner core state end received sent x xs c same h ih l dest packet packets q = ih l.0.state received sent l.3 dest packet packets q
+  late_at (takes origin) core state end received sent x xs c same h ih l dest packet packets q = ih l.0.state (put received origin l.2) sent l.6 dest packet packets q
+  late_at (ships other) core state end received sent x xs c same h ih l dest packet packets q = elim (cases_eq dest other) [
     | inl e ↦
         let s = shipping_step (machine.step core state x.0 None) l.0 l.1 l.4 in
-        let at_clock : machine.stamp l.1 ≡ machine.clock x.0 = clocked.ships_then core state x.0 None l.1 l.0 s.0 s.1 in
+        let at_clock : machine.stamp l.1 ≡ machine.clock x.0 = clocked.ships_then core state x.0 other l.1 l.0 same s.0 s.1 in
         let both : l.1 ∷ l.2 ≡ packet ∷ packets = sym l.3 ∙ ap sent (sym e) ∙ q in
-        let same : l.1 ≡ packet = cc in
-        let stamps : machine.stamp l.1 ≡ machine.stamp packet = ap machine.stamp same in
+        let one : l.1 ≡ packet = cc in
+        let stamps : machine.stamp l.1 ≡ machine.stamp packet = ap machine.stamp one in
         omega (arith, h, at_clock, stamps)
     | inr n ↦ ih l.0.state received (put sent other l.2) l.6 dest packet packets (put_other sent other l.2 dest n ∙ q)
   ]
@@ -78,7 +78,7 @@ module _ {S E P M : Type 0} (machine : Machine S E P M) (time : S → ℕ) (note
       → LocalRun machine core state received sent xs end → Late c sent
   late [] core state end received sent c h l dest packet packets q = let z : [] ≡ packet ∷ packets = sym (l.2 dest) ∙ q in absurd (cc)
   late (x ∷ xs) core state end received sent c h l dest packet packets q =
-      late_at (machine.kind x.0) core state end received sent x xs c h.0 (λ next untaken unsent r. late xs core next end untaken unsent c h.1 r) l dest packet packets q
+      late_at (machine.kind x.0) core state end received sent x xs c refl h.0 (λ next untaken unsent r. late xs core next end untaken unsent c h.1 r) l dest packet packets q
 
   abbrev Locals : (ℕ → S) → (ℕ → ℕ → List P) → (ℕ → ℕ → List P) → List (ℕ × Marked E M) → (ℕ → S) → Type 0
   Locals states received sent ys ends = (k : ℕ) → LocalRun machine k (states k) (received k) (sent k) (at_core k ys) (ends k)
@@ -108,10 +108,10 @@ module _ {S E P M : Type 0} (machine : Machine S E P M) (time : S → ℕ) (note
       → GlobalRun machine states transit ys ends left
 
   step : (kind : Kind) (i : ℕ) (x : Marked E M) (ys : List (ℕ × Marked E M)) (states ends : ℕ → S) (transit received sent left : ℕ → ℕ → List P)
-      → NotBelow step_clock (entry_clock x) ys → Locals states received sent ((i, x) ∷ ys) ends → Fits transit sent received left → Goes ys ends left
+      → machine.kind x.0 ≡ kind → NotBelow step_clock (entry_clock x) ys → Locals states received sent ((i, x) ∷ ys) ends → Fits transit sent received left → Goes ys ends left
       → LocalAt machine kind i (states i) (received i) (sent i) x (λ state untaken unsent. LocalRun machine i state untaken unsent (at_core i ys) (ends i))
       → GlobalAt machine kind i states transit x (λ after moved. GlobalRun machine after moved ys ends left)
-  step inner i x ys states ends transit received sent left h locals fits ih r = (
+  step inner i x ys states ends transit received sent left same h locals fits ih r = (
     r.0,
     r.1,
     r.2,
@@ -119,14 +119,14 @@ module _ {S E P M : Type 0} (machine : Machine S E P M) (time : S → ℕ) (note
         (advanced i x ys states ends received sent r.0.state (received i) (sent i) locals r.3)
         (λ a b. rw (put_self sent i a, put_self received i b) (fits a b)),
   )
-  step (takes o) i x ys states ends transit received sent left h locals fits ih r =
+  step (takes o) i x ys states ends transit received sent left same h locals fits ih r =
       let packet = r.1 in
       let whole : transit o i ++ sent o i ≡ packet ∷ (r.2 ++ left o i) = fits o i ∙ ap (λ ps. ps ++ left o i) r.3 in
       let s = quiet_step (machine.step i (states i) x.0 (Some packet)) r.0 r.4 in
       let f = front (transit o i) (sent o i) packet (r.2 ++ left o i) whole (λ q.
       let shipped = late (at_core o ((i, x) ∷ ys)) o (states o) (ends o) (received o) (sent o) (entry_clock x)
       (core_not_below o (entry_clock x) ((i, x) ∷ ys) (le_refl (entry_clock x), h)) (locals o) i packet (r.2 ++ left o i) q in
-      let taken : machine.stamp packet < machine.clock x.0 = clocked.takes_before i (states i) x.0 packet r.0 s.0 in
+      let taken : machine.stamp packet < machine.clock x.0 = clocked.takes_before i (states i) x.0 o packet r.0 same s.0 in
       absurd (omega (arith, shipped, taken))) in (
         r.0,
         packet,
@@ -141,7 +141,7 @@ module _ {S E P M : Type 0} (machine : Machine S E P M) (time : S → ℕ) (note
               | inr w ↦ rw (pair_other transit o i f.0 a b w, pair_other received i o r.2 b a (λ u v. w v u)) (fits a b)
             ])),
       )
-  step (ships d) i x ys states ends transit received sent left h locals fits ih r =
+  step (ships d) i x ys states ends transit received sent left same h locals fits ih r =
       let packet = r.1 in (
         r.0,
         packet,
@@ -163,7 +163,7 @@ module _ {S E P M : Type 0} (machine : Machine S E P M) (time : S → ℕ) (note
         sym (append-nil (transit a b)) ∙ ap (λ ps. transit a b ++ ps) (sym ((locals a).2 b)) ∙ fits a b ∙ ap (λ ps. ps ++ left a b) ((locals b).1 a)),
   )
   merges (y ∷ ys) ends left h states transit received sent locals fits =
-      step (machine.kind y.1.0) y.0 y.1 ys states ends transit received sent left h.0 locals fits
+      step (machine.kind y.1.0) y.0 y.1 ys states ends transit received sent left refl h.0 locals fits
       (λ after moved untaken unsent l f. merges ys ends left h.1 after moved untaken unsent l f)
       (subst (λ es. LocalRun machine y.0 (states y.0) (received y.0) (sent y.0) es (ends y.0)) (core_own y.0 y ys refl) (locals y.0))
 

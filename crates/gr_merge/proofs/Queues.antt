@@ -60,6 +60,9 @@ joined_last f g i x = fun_ext (λ k. elim (cases_eq k i) [
   | inr n ↦ ap (λ ys. ys ++ g k) (put_other f i (f i ++ x ∷ []) k n) ∙ sym (ap (λ ys. f k ++ ys) (put_other g i (x ∷ g i) k n))
 ])
 
+pub joined_next : {X : Type 0} (f g : ℕ → List X) (i : ℕ) (x : X) (all : ℕ → List X) → joined (with_last f i x) g ≡ all → joined f (put g i (x ∷ g i)) ≡ all
+joined_next f g i x all h = sym (joined_last f g i x) ∙ h
+
 pub joined_one : {X : Type 0} (f : ℕ → List X) (i : ℕ) (x : X) → joined f (put (λ k. []) i (x ∷ [])) ≡ with_last f i x
 joined_one f i x = sym (joined_last f (λ k. []) i x) ∙ joined_nothing (with_last f i x) (λ k. []) (λ k. refl)
 

@@ -76,8 +76,8 @@ step core state entry taken went h =
 pub clocked : IsClocked totals (λ (state : Total). state.clock) (λ (mark : Total). mark.clock)
 clocked = record {
   ticks = λ core state entry taken went h. let s = step core state entry taken went h in (subst (λ n. state.clock < n) s.clock s.good.later, s.clock);
-  takes_before = λ core state entry packet went h. let s = step core state entry (Some packet) went h in subst (λ n. packet.clock < n) s.clock (s.good.before packet refl);
-  ships_then = λ core state entry taken packet went h z. let s = step core state entry taken went h in s.good.shipped_now packet z ∙ s.clock;
+  takes_before = λ core state entry origin packet went k h. let s = step core state entry (Some packet) went h in subst (λ n. packet.clock < n) s.clock (s.good.before packet refl);
+  ships_then = λ core state entry dest packet went k h z. let s = step core state entry None went h in s.good.shipped_now packet z ∙ s.clock;
   marks_then = λ core state entry taken went h. let s = step core state entry taken went h in
       subst (λ n. All (λ (mark : Total). mark.clock ≡ n) went.marks) s.clock s.good.marks;
 }

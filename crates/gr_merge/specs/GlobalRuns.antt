@@ -23,11 +23,13 @@ abbrev pub put_pair : {X : Type 0} → (ℕ → ℕ → X) → ℕ → ℕ → X
 put_pair f one other x = put f one (put (f one) other x)
 
 -- The world after a step of a core, with these packets in transit.
-abbrev pub world_with : {State Packet Mark : Type 0} → World State Packet Mark → ℕ → (ℕ → ℕ → List Packet) → Went State Packet Mark → World State Packet Mark
+abbrev pub world_with : {State Packet Mark : Type 0} → World State Packet Mark → ℕ → (ℕ → ℕ → List Packet) → Went State Packet Mark
+    → World State Packet Mark
 world_with world core transit went = record { states = put world.states core went.state; transit = transit; marks = world.marks ++ of_core core went.marks }
 
 -- The world after an entry of this kind at a core.
-abbrev pub goes_at : {State Entry Packet Mark : Type 0} → Machine State Entry Packet Mark → Kind → ℕ → World State Packet Mark → Entry → Option (World State Packet Mark)
+abbrev pub goes_at : {State Entry Packet Mark : Type 0} → Machine State Entry Packet Mark → Kind → ℕ → World State Packet Mark → Entry
+    → Option (World State Packet Mark)
 goes_at machine inner core world entry = option_map (world_with world core world.transit) (inner_step machine core (world.states core) entry)
 goes_at machine (takes origin) core world entry =
     with_first (world.transit origin core) (λ packet rest.
@@ -37,7 +39,8 @@ goes_at machine (ships dest) core world entry =
     (ship_step machine core (world.states core) entry)
 
 -- The world after steps, each a core and its entry, as a fold over them.
-abbrev pub fold_global : {State Entry Packet Mark : Type 0} → Machine State Entry Packet Mark → World State Packet Mark → List (ℕ × Entry) → Option (World State Packet Mark)
+abbrev pub fold_global : {State Entry Packet Mark : Type 0} → Machine State Entry Packet Mark → World State Packet Mark → List (ℕ × Entry)
+    → Option (World State Packet Mark)
 fold_global machine world [] = Some world
 fold_global machine world (step ∷ steps) =
     option_and_then (λ next. fold_global machine next steps) (goes_at machine (machine.kind step.1) step.0 world step.1)
@@ -53,7 +56,8 @@ GlobalAt {State} {Entry} {Packet} {Mark} machine (takes origin) core states tran
     × (take_step machine core (states core) entry.0 packet ≡ Some went) × (went.marks ≡ entry.1)
     × rest (put states core went.state) (put_pair transit origin core packets)
 GlobalAt {State} {Entry} {Packet} {Mark} machine (ships dest) core states transit entry rest =
-    (went : Went State Packet Mark) × (packet : Packet) × (ship_step machine core (states core) entry.0 ≡ Some (went, packet)) × (went.marks ≡ entry.1)
+    (went : Went State Packet Mark) × (packet : Packet) × (ship_step machine core (states core) entry.0 ≡ Some (went, packet)) × (went.marks
+    ≡ entry.1)
     × rest (put states core went.state) (put_pair transit core dest (transit core dest ++ packet ∷ []))
 
 -- Steps, each a core and its entry with its marks, lead from states and packets in transit to others.

@@ -20,11 +20,13 @@ abbrev pub ended : {State Packet Mark : Type 0} → State → (ℕ → List Pack
 ended state sent marks = record { state = state; untaken = λ origin. []; shipped = sent; marks = marks }
 
 -- A core after a step, with these packets yet to take and these shipped.
-abbrev pub came_with : {State Packet Mark : Type 0} → Came State Packet Mark → (ℕ → List Packet) → (ℕ → List Packet) → Went State Packet Mark → Came State Packet Mark
+abbrev pub came_with : {State Packet Mark : Type 0} → Came State Packet Mark → (ℕ → List Packet) → (ℕ → List Packet) → Went State Packet Mark
+    → Came State Packet Mark
 came_with came untaken shipped went = record { state = went.state; untaken = untaken; shipped = shipped; marks = came.marks ++ went.marks }
 
 -- A core after an entry of this kind.
-abbrev pub comes_at : {State Entry Packet Mark : Type 0} → Machine State Entry Packet Mark → Kind → ℕ → Came State Packet Mark → Entry → Option (Came State Packet Mark)
+abbrev pub comes_at : {State Entry Packet Mark : Type 0} → Machine State Entry Packet Mark → Kind → ℕ → Came State Packet Mark → Entry
+    → Option (Came State Packet Mark)
 comes_at machine inner core came entry = option_map (came_with came came.untaken came.shipped) (inner_step machine core came.state entry)
 comes_at machine (takes origin) core came entry =
     with_first (came.untaken origin) (λ packet rest. option_map (came_with came (put came.untaken origin rest) came.shipped) (take_step machine core came.state entry packet))
@@ -32,7 +34,8 @@ comes_at machine (ships dest) core came entry =
     option_map (λ sent. came_with came came.untaken (with_last came.shipped dest sent.1) sent.0) (ship_step machine core came.state entry)
 
 -- A core after its journal, as a fold over the entries.
-abbrev pub fold_local : {State Entry Packet Mark : Type 0} → Machine State Entry Packet Mark → ℕ → Came State Packet Mark → List Entry → Option (Came State Packet Mark)
+abbrev pub fold_local : {State Entry Packet Mark : Type 0} → Machine State Entry Packet Mark → ℕ → Came State Packet Mark → List Entry
+    → Option (Came State Packet Mark)
 fold_local machine core came [] = Some came
 fold_local machine core came (entry ∷ entries) =
     option_and_then (λ next. fold_local machine core next entries) (comes_at machine (machine.kind entry) core came entry)

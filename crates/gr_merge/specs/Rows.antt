@@ -28,7 +28,8 @@ LastOfThree = at_core 2 three ≡ 1 ∷ 2 ∷ 4 ∷ []
 
 -- Equal clocks of one core stay in their order, and an empty list has nothing.
 abbrev pub EqualInOneList : Type 0
-EqualInOneList = merge (λ (x : ℕ × ℕ). x.0) (((3, 9) ∷ (3, 8) ∷ []) ∷ [] ∷ ((3, 7) ∷ []) ∷ []) ≡ (0, (3, 9)) ∷ (0, (3, 8)) ∷ (2, (3, 7)) ∷ []
+EqualInOneList =
+    merge (λ (x : ℕ × ℕ). x.0) (((3, 9) ∷ (3, 8) ∷ []) ∷ [] ∷ ((3, 7) ∷ []) ∷ []) ≡ (0, (3, 9)) ∷ (0, (3, 8)) ∷ (2, (3, 7)) ∷ []
 
 -- A machine of totals. An entry adds a number to the core's total and marks it, ships the total where that is above 0, or adds a total that was shipped.
 
@@ -55,8 +56,12 @@ abbrev pub told : Total → Option (Went Total Total Total)
 told after = if after.total == 0 then None else Some (record { state = after; packet = Some after; marks = [] })
 
 abbrev pub acts : Total → Act → Option Total → Option (Went Total Total Total)
-acts state (add number) None = let after : Total = record { clock = state.clock + 1; total = state.total + number } in Some (record { state = after; packet = None; marks = after ∷ [] })
-acts state (gather origin) (Some packet) = Some (record { state = record { clock = max state.clock packet.clock + 1; total = state.total + packet.total }; packet = None; marks = [] })
+acts state (add number) None =
+    let after : Total = record { clock = state.clock + 1; total = state.total + number } in
+    Some (record { state = after; packet = None; marks = after ∷ [] })
+acts state (gather origin) (Some packet) =
+    let after : Total = record { clock = max state.clock packet.clock + 1; total = state.total + packet.total } in
+    Some (record { state = after; packet = None; marks = [] })
 acts state (tell dest) None = told (record { clock = state.clock + 1; total = state.total })
 acts state act taken = None
 
@@ -66,7 +71,12 @@ at_clock clock None = None
 at_clock clock (Some went) = if went.state.clock == clock then Some went else None
 
 abbrev pub totals : Machine Total Entry Total Total
-totals = record { kind = λ x. kind_of x.act; clock = λ x. x.clock; stamp = λ packet. packet.clock; step = λ core state x taken. at_clock x.clock (acts state x.act taken) }
+totals = record {
+  kind = λ x. kind_of x.act;
+  clock = λ x. x.clock;
+  stamp = λ packet. packet.clock;
+  step = λ core state x taken. at_clock x.clock (acts state x.act taken);
+}
 
 abbrev pub entry : ℕ → Act → Entry
 entry clock act = record { clock = clock; act = act }
@@ -117,7 +127,8 @@ abbrev pub StepsRun : Type 0
 StepsRun = known (ran steps) ≡ Some (total 6 12, total 5 8, total 6 12 ∷ [], [], (0, total 1 5) ∷ (1, total 1 2) ∷ (1, total 5 8) ∷ [])
 
 abbrev pub MarksMerge : Type 0
-MarksMerge = merge (λ (mark : Total). mark.clock) ((total 1 5 ∷ []) ∷ (total 1 2 ∷ total 5 8 ∷ []) ∷ []) ≡ (0, total 1 5) ∷ (1, total 1 2) ∷ (1, total 5 8) ∷ []
+MarksMerge =
+    merge (λ (mark : Total). mark.clock) ((total 1 5 ∷ []) ∷ (total 1 2 ∷ total 5 8 ∷ []) ∷ []) ≡ (0, total 1 5) ∷ (1, total 1 2) ∷ (1, total 5 8) ∷ []
 
 -- Nothing comes of a total of 0 that is told, of another clock, or of a packet that isn't there.
 abbrev pub NoneTold : Type 0
