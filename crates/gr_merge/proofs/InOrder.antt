@@ -1,8 +1,9 @@
 -- The merge of lists: each core's in its order, and clocks that don't fall.
 use Rattle.std.proofs.Common.{◌≡◌, ℕ, zero, suc, ◌+◌, ◌<◌, ◌≤◌, ◌==◌, true, false, if◌then◌else◌, map, List, [], ◌∷◌, slice_index_or, ◌∙◌, add-zero, zero-add, refl, sym, subst, ap, inl, inr, arith, eq-eqb, ne_eqb}
+use Rattle.std.proofs.lemmas.List.Elements.{All-nil, All-cons}
 use Rattle.std.proofs.lemmas.Bool.{cases_eq}
 use Rattle.std.proofs.lemmas.Bool.Decides.{nat_tests}
-use Rattle.std.specs.Prelude.{⊤, length}
+use Rattle.std.specs.Prelude.{⊤, All, length}
 use Rattle.std.specs.List.Sorted.{IsNonDecreasingBy, IsSortedBy}
 use Rattle.gr_merge.specs.Merges.{goes_first, merge_two, merge_from, merge, at_core}
 use Rattle.gr_merge.proofs.Rising.{either, Each, each_of, Rises, below_less, rises_from, rises_to}
@@ -191,3 +192,22 @@ module _ {X : Type 0} (clock : X → ℕ) where
   merge_sorted lists h k d above within =
       subst (λ j. goes_first clock (slice_index_or (merge clock lists) j d) (slice_index_or (merge clock lists) k d) ≡ false) (next_is k)
       (adjacent (merge clock lists) (from_sorted 0 lists (λ j. rises_from clock (slice_index_or lists j []) (h j))) k d (omega (arith, within)))
+
+  -- The cores that there are.
+
+  own_below : (n m : ℕ) (xs : List X) → n < m → Each (λ (y : ℕ × X). y.0 < m) (map (λ x. (n, x)) xs)
+  own_below n m [] h = tt
+  own_below n m (x ∷ xs) h = (h, own_below n m xs h)
+
+  from_below : (n m : ℕ) (lists : List (List X)) → n + length lists ≤ m → Each (λ (y : ℕ × X). y.0 < m) (merge_from clock n lists)
+  from_below n m [] h = tt
+  from_below n m (list ∷ lists) h =
+      each_merge_two (λ y. y.0 < m) (map (λ x. (n, x)) list) (merge_from clock (n + 1) lists)
+      (own_below n m list (omega (arith, h))) (from_below (n + 1) m lists (omega (arith, h)))
+
+  all_each : (P : ℕ × X → Type 0) (ys : List (ℕ × X)) → Each P ys → All P ys
+  all_each P [] h = All-nil P
+  all_each P (y ∷ ys) h = All-cons P y ys h.0 (all_each P ys h.1)
+
+  pub merge_below : (lists : List (List X)) → All (λ step. step.0 < length lists) (merge clock lists)
+  merge_below lists = all_each (λ y. y.0 < length lists) (merge clock lists) (from_below 0 (length lists) lists (omega arith))

@@ -13,12 +13,16 @@ use Rattle.gr_merge.specs.Merges.{goes_first, merge, at_core}
 abbrev pub MergesKeepLists : Type 0 → Type 0
 MergesKeepLists X = (clock : X → ℕ) (lists : List (List X)) (core : ℕ) → at_core core (merge clock lists) ≡ slice_index_or lists core []
 
+-- The merge is of the cores that have a list.
+abbrev pub MergesAreOfCores : Type 0 → Type 0
+MergesAreOfCores X = (clock : X → ℕ) (lists : List (List X)) → All (λ step. step.0 < length lists) (merge clock lists)
+
 -- Where the clocks of no list fall, none of the merge stands before the one before it, by clock and then by core.
 abbrev pub MergesAreSorted : Type 0 → Type 0
 MergesAreSorted X = (clock : X → ℕ) (lists : List (List X)) → ((core : ℕ) → IsNonDecreasingBy clock (slice_index_or lists core []))
     → IsSortedBy (goes_first clock) (merge clock lists)
 
--- Nor do the clocks of the merge fall then.
+-- Where the clocks of no list fall, those of the merge don't.
 abbrev pub MergesRise : Type 0 → Type 0
 MergesRise X = (clock : X → ℕ) (lists : List (List X)) → ((core : ℕ) → IsNonDecreasingBy clock (slice_index_or lists core []))
     → IsNonDecreasingBy (λ step. clock step.1) (merge clock lists)

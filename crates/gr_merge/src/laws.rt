@@ -2,10 +2,11 @@
 ghost use Rattle.gr_merge.specs.Laws as laws;
 ghost use Rattle.gr_merge.specs.Rows as rows;
 
-/// A merge has the list of each core in its order. Where the clocks of no list fall, it is in order by clock and then
+/// A merge has the list of each core that has one, in its order. Where the clocks of no list fall, it is in order by clock and then
 /// by core, and so its clocks don't fall.
 pub fn merges_are_in_order<T>()
     ensures lists { laws.MergesKeepLists T }
+    ensures cores { laws.MergesAreOfCores T }
     ensures sorted { laws.MergesAreSorted T }
     ensures clocks { laws.MergesRise T }
 {}
