@@ -1,0 +1,12 @@
+pub mod Queues
+pub mod LocalFolds
+pub mod GlobalFolds
+pub mod Joins
+pub mod Rising
+pub mod InOrder
+pub mod Orders
+pub mod Marks
+pub mod Theorem
+pub mod Totals
+pub mod Taking
+pub mod GoingOn
