@@ -1,0 +1,3 @@
+mod RunRows
+mod EventRows
+mod ProgramRows

@@ -1,0 +1,2 @@
+//! Cores that send each other messages, for any kind of state, message and mark.
+#![tactic(auto)]
