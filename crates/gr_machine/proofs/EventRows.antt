@@ -28,6 +28,10 @@ pub calls_fill : events.CallsFill
 unfolding put put_scope add_last middle offered_in kept_in offered kept_end
 calls_fill = record { one = refl; two = refl; both = refl }
 
+pub messages_fill : events.MessagesFill
+unfolding put put_scope add_last middle offered_in kept_in offered kept_end
+messages_fill = record { busy = refl; idle = refl; full = refl }
+
 pub nothing_more : events.NothingMore
 unfolding put put_scope add_last middle offered_in kept_in offered kept_end
 nothing_more = record { trapped = refl; passed = refl; other = refl; spent = refl; last = refl }

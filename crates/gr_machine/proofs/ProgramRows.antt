@@ -56,3 +56,31 @@ batch_complete = search (rules, the_lemmas, expr_lemmas, by_ids, members)
 pub turn_complete : rows.TurnIsComplete
 unfolding next look start go_on opening left
 turn_complete = search (rules, the_lemmas, expr_lemmas, by_ids)
+
+pub looped_plays : rows.LoopedPlays
+unfolding next look start go_on opening
+looped_plays = search (rules, the_lemmas, expr_lemmas)
+
+pub nested_plays : rows.NestedPlays
+unfolding next look start go_on opening
+nested_plays = search (rules, the_lemmas, expr_lemmas)
+
+pub nested_complete : rows.NestedIsComplete
+unfolding next look start go_on opening left
+nested_complete = search (rules, the_lemmas, expr_lemmas, by_ids)
+
+pub enrolled_plays : rows.EnrolledPlays
+unfolding next look start go_on opening
+enrolled_plays = search (rules, the_lemmas, expr_lemmas)
+
+pub enrolled_complete : rows.EnrolledIsComplete
+unfolding next look start go_on opening left
+enrolled_complete = search (rules, the_lemmas, expr_lemmas, by_ids)
+
+pub reduced_plays : rows.ReducedPlays
+unfolding next look start go_on opening
+reduced_plays = search (rules, the_lemmas, expr_lemmas)
+
+pub reduced_complete : rows.ReducedIsComplete
+unfolding next look start go_on opening left
+reduced_complete = search (rules, the_lemmas, expr_lemmas, by_ids)

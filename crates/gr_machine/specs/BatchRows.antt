@@ -1,6 +1,6 @@
 -- Worked rows of three inserts of one key, which go off as one batch.
 -- set s; task t() { let n = s.insert(9); print n; } task main() { finish { spawn t(); spawn t(); spawn t(); } }
-use Rattle.std.specs.Prelude.{ℕ, List, [], ◌∷◌, slice_index_or, None, zero, suc}
+use Rattle.std.specs.Prelude.{List, [], ◌∷◌, slice_index_or, None, zero, suc}
 use Rattle.std.specs.FinSet as set
 use Rattle.gr_lang.specs.declared.action.Action.TheVariants as action
 use Rattle.gr_lang.specs.declared.action.Op.TheVariants as op
@@ -8,7 +8,6 @@ use Rattle.gr_lang.specs.declared.action.How.TheVariants as how
 use Rattle.gr_lang.specs.declared.action.Entry.TheVariants as entry
 use Rattle.gr_lang.specs.declared.action.Effect.TheVariants as effect
 use Rattle.gr_lang.specs.declared.action.Entry.{Entry}
-use Rattle.gr_lang.specs.declared.action.Action.{Action}
 use Rattle.gr_lang.specs.declared.action.WaitingCall.{WaitingCall}
 use Rattle.gr_lang.specs.Objects.{keys}
 use Rattle.gr_lang.specs.Effects.{nothing, one}
@@ -27,9 +26,9 @@ batch_script (suc target) args words =
 abbrev pub batch : Machine
 batch = machine_with (setup_of 1 8 32) (scripted batch_script 1 (0 ∷ 0 ∷ []) (objects_of [] (keys set.empty ∷ [])))
 
--- The calls of the batch.
-abbrev pub closed_calls : List WaitingCall
-closed_calls =
+-- The calls of batch 0.
+abbrev pub closed_0 : List WaitingCall
+closed_0 =
     record { slot = 1; id = id 0 1; op = op.Insert 0 9 }
     ∷ record { slot = 2; id = id 0 2; op = op.Insert 0 9 }
     ∷ record { slot = 3; id = id 0 3; op = op.Insert 0 9 }
@@ -48,7 +47,7 @@ batch_lines =
     ∷ run 0 9 [] []
     ∷ run 0 10 (3 ∷ []) []
     ∷ run 0 11 [] []
-    ∷ close 0 12 0 (mark.Closed 0 closed_calls ∷ [])
+    ∷ close 0 12 0 (mark.Closed 0 closed_0 ∷ [])
     ∷ serve 0 13 (msg.Batch 0 9 (effect.Present 0) 0) (mark.Applied 0 0 None ∷ [])
     ∷ serve 0 14 (msg.BatchReply 0 None) []
     ∷ run 0 15 [] []

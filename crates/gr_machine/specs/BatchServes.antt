@@ -13,7 +13,7 @@ use Rattle.gr_view.specs.Places.{put}
 use Rattle.gr_msg.specs.declared.message.Msg.TheVariants as msg
 use Rattle.gr_batch.specs.Folding.{wakes_of}
 use Rattle.gr_machine.specs.declared.mark.Mark.TheVariants as mark
-use Rattle.gr_machine.specs.Machines.{Machine, home, place, thing}
+use Rattle.gr_machine.specs.Machines.{Machine, home, place}
 use Rattle.gr_machine.specs.States.{Body}
 use Rattle.gr_machine.specs.Outcomes.{Outcome, to, quietly}
 use Rattle.gr_machine.specs.Slots.{awaits_batch, calls_await, resumed_all}
@@ -48,12 +48,12 @@ abbrev pub word_batch : Machine → ℕ → Body → ℕ → ℕ → Effect → 
 word_batch machine me body from at what batch =
     if is_of_word what && home machine at == me then word_applied body from (place machine at) what batch (body.words.segment (place machine at)) else None
 
-abbrev pub with_key : Body → ℕ → ℕ → Option ℕ → Body
-with_key body object key value = record body { words = record body.words { shards = put body.words.shards object (put (body.words.shards object) key value) } }
+abbrev pub with_under : Body → ℕ → ℕ → Option ℕ → Body
+with_under body object key value = record body { words = record body.words { shards = put body.words.shards object (put (body.words.shards object) key value) } }
 
 -- What stands under a key here.
 abbrev pub key_applied : Body → ℕ → ℕ → ℕ → Effect → ℕ → Option ℕ → Outcome
-key_applied body from object key what batch before = applied (with_key body object key (after what before)) from batch before
+key_applied body from object key what batch before = applied (with_under body object key (after what before)) from batch before
 
 abbrev pub key_batch : Body → ℕ → ℕ → ℕ → Effect → ℕ → Bool → Option Outcome
 key_batch body from object key what batch true = Some (key_applied body from object key what batch (body.words.shards object key))

@@ -1,5 +1,5 @@
 -- Run: a ready task makes a call. A call of a word, of the heap or a print is asked of a core; every other call joins the calls that wait to be combined.
-use Rattle.std.specs.Prelude.{ℕ, ◌<◌, ◌&&◌, Bool, true, false, nat_lt, if◌then◌else◌, List, [], ◌∷◌, ◌++◌, Option, Some, None}
+use Rattle.std.specs.Prelude.{ℕ, Bool, true, false, nat_lt, if◌then◌else◌, [], ◌∷◌, ◌++◌, Option, Some, None}
 use Rattle.gr_lang.specs.declared.action.Op.{Op}
 use Rattle.gr_lang.specs.declared.action.Op.TheVariants as op
 use Rattle.gr_lang.specs.declared.action.WaitingCall.{WaitingCall}
@@ -14,8 +14,8 @@ use Rattle.gr_machine.specs.Slots.{waiting, dropped}
 -- Words, the heap and prints
 
 -- The call of this number is asked of a core, and the task waits for the reply.
-abbrev pub asked : Body → ℕ → Suspended → ℕ → ℕ → ℕ → ℕ → ℕ → Outcome
-asked body slot task core operation x y z = record {
+abbrev pub call_asked : Body → ℕ → Suspended → ℕ → ℕ → ℕ → ℕ → ℕ → Outcome
+call_asked body slot task core operation x y z = record {
   body = waiting body slot task for_reply;
   sends = to core (msg.Request slot task.id operation x y z);
   marks = [];
@@ -24,7 +24,7 @@ asked body slot task core operation x y z = record {
 -- A call on a word is asked of the word's home, where there is an address.
 abbrev pub word_asked : Machine → Body → ℕ → Suspended → ℕ → ℕ → ℕ → Option ℕ → Outcome
 word_asked machine body slot task operation y z None = dropped body slot
-word_asked machine body slot task operation y z (Some at) = asked body slot task (home machine at) operation at y z
+word_asked machine body slot task operation y z (Some at) = call_asked body slot task (home machine at) operation at y z
 
 -- Reduces, sets and maps
 
@@ -90,6 +90,6 @@ called machine body slot task (op.Merge object reducer key word) = key_joins mac
 called machine body slot task (op.Push object word) = vector_joins body slot task (op.Push object word) object (body.vectors.vectors object)
 called machine body slot task (op.Pop object) = vector_joins body slot task (op.Pop object) object (body.vectors.vectors object)
 called machine body slot task (op.Dequeue object) = vector_joins body slot task (op.Dequeue object) object (body.vectors.vectors object)
-called machine body slot task (op.Alloc count) = asked body slot task 0 5 count 0 0
-called machine body slot task (op.Free place) = asked body slot task 0 6 place 0 0
-called machine body slot task (op.Print word) = asked body slot task 0 7 word 0 0
+called machine body slot task (op.Alloc count) = call_asked body slot task 0 5 count 0 0
+called machine body slot task (op.Free place) = call_asked body slot task 0 6 place 0 0
+called machine body slot task (op.Print word) = call_asked body slot task 0 7 word 0 0

@@ -1,11 +1,10 @@
 -- Worked rows of a run on one core: nine events.
 -- array a[1]; task main() { let x = a.add(0, 5); print x; }
-use Rattle.std.specs.Prelude.{ℕ, List, [], ◌∷◌, slice_index_or}
+use Rattle.std.specs.Prelude.{List, [], ◌∷◌, slice_index_or}
 use Rattle.gr_lang.specs.declared.action.Action.TheVariants as action
 use Rattle.gr_lang.specs.declared.action.Op.TheVariants as op
 use Rattle.gr_lang.specs.declared.action.Entry.TheVariants as entry
 use Rattle.gr_lang.specs.declared.action.Entry.{Entry}
-use Rattle.gr_lang.specs.declared.action.Action.{Action}
 use Rattle.gr_lang.specs.Objects.{array}
 use Rattle.gr_lang.specs.Effects.{nothing, one}
 use Rattle.gr_msg.specs.declared.message.Msg.TheVariants as msg

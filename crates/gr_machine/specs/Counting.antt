@@ -1,5 +1,5 @@
 -- What a core has done, in numbers: what each event adds.
-use Rattle.std.specs.Prelude.{ℕ, ◌+◌, Bool, true, false, nat_lt, List, [], ◌∷◌, length, Option, Some, None, slice_get, count_by}
+use Rattle.std.specs.Prelude.{◌+◌, Bool, true, false, nat_lt, length, slice_get, count_by}
 use Rattle.std.specs.Option.{option_map_or, option_and_then}
 use Rattle.gr_lang.specs.Expressions.{number_of}
 use Rattle.gr_lang.specs.declared.action.Action.{Action}
@@ -13,7 +13,7 @@ use Rattle.gr_machine.specs.declared.mark.Mark.{Mark}
 use Rattle.gr_machine.specs.declared.mark.Mark.TheVariants as mark
 use Rattle.gr_machine.specs.Machines.{Machine}
 use Rattle.gr_machine.specs.States.{Core}
-use Rattle.gr_machine.specs.Events.{Packet, Transition}
+use Rattle.gr_machine.specs.Events.{Transition}
 
 abbrev pub nothing_done : Counts
 nothing_done = record { calls = 0; messages = 0; packets = 0; short = 0; batches = 0; asks = 0; gives = 0 }

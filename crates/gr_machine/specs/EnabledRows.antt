@@ -14,6 +14,7 @@ use Rattle.gr_machine.specs.CounterRows.{counter, counter_lines}
 use Rattle.gr_machine.specs.RemoteRows.{remote, remote_lines}
 use Rattle.gr_machine.specs.BatchRows.{batch, batch_lines}
 use Rattle.gr_machine.specs.TurnRows.{turn, turn_lines}
+use Rattle.gr_machine.specs.EnrolRows.{enrolled, enrolled_lines}
 use Rattle.gr_machine.specs.TrapRows.{trapped, trapped_lines}
 
 -- The numbers below one.
@@ -104,6 +105,12 @@ pub record CallsFill : Type 0 where
   pub one : enabled_behind turn (take 6 turn_lines) 0 ≡ Some (event.Run ∷ event.Take 1 ∷ event.Close 0 ∷ [])
   pub two : enabled_behind (with_limit turn 2) (take 6 turn_lines) 0 ≡ Some (event.Run ∷ event.Take 1 ∷ [])
   pub both : enabled_behind (with_limit turn 2) (take 8 turn_lines) 0 ≡ Some (event.Take 1 ∷ event.Close 0 ∷ [])
+
+-- Two messages of the 32 that fill a packet: they are shipped only when the core is idle. Where two fill one, they are shipped at once.
+pub record MessagesFill : Type 0 where
+  pub busy : enabled_behind enrolled (take 3 enrolled_lines) 0 ≡ Some (event.Run ∷ event.Take 1 ∷ [])
+  pub idle : enabled_behind enrolled (take 4 enrolled_lines) 0 ≡ Some (event.Take 1 ∷ event.Ship 1 ∷ event.Steal 1 ∷ [])
+  pub full : enabled_behind (with_limit enrolled 2) (take 3 enrolled_lines) 0 ≡ Some (event.Run ∷ event.Take 1 ∷ event.Ship 1 ∷ [])
 
 -- Behind a trap, behind the end, and at the limit of its clock a core makes no event.
 abbrev pub with_events : Machine → ℕ → Machine

@@ -129,17 +129,17 @@ pub record Transition : Type 0 where
   pub sent : List Send
   pub packet : Option Packet
 
-abbrev pub ended : Course → Transition
-ended course = record { core = course.core; marks = course.marks; sent = course.sent; packet = None }
+abbrev pub came_of : Course → Transition
+came_of course = record { core = course.core; marks = course.marks; sent = course.sent; packet = None }
 
 -- Each event but a Take, at a core whose clock has ticked. A task that a unit starts takes this slot.
 abbrev pub happens : Machine → ℕ → Core → ℕ → Event → Transition
-happens machine me core slot event.Serve = ended (served machine me core)
-happens machine me core slot event.Run = ended (ran machine me core slot)
-happens machine me core slot (event.Close object) = ended (closed machine me core object)
-happens machine me core slot (event.Steal victim) = ended (stolen me core victim)
+happens machine me core slot event.Serve = came_of (served machine me core)
+happens machine me core slot event.Run = came_of (ran machine me core slot)
+happens machine me core slot (event.Close object) = came_of (closed machine me core object)
+happens machine me core slot (event.Steal victim) = came_of (stolen me core victim)
 happens machine me core slot (event.Ship dest) = record { core = shipped machine core dest; marks = []; sent = []; packet = Some (packet_to machine core dest) }
-happens machine me core slot (event.Take from) = ended (begun core)
+happens machine me core slot (event.Take from) = came_of (begun core)
 
 -- How many slots the new tasks of an event take. Only a Run takes one, where no slot is ready.
 abbrev pub slots_needed : Machine → Core → Event → ℕ
@@ -162,7 +162,7 @@ ticked core clock = record core { clock = clock + 1 }
 
 -- A Take is given the packet that it takes, and no other event one.
 abbrev pub steps_to : Machine → ℕ → Core → Event → List ℕ → Option Packet → Option Transition
-steps_to machine me core (event.Take from) [] (Some packet) = Some (ended (begun (received (ticked core (max core.clock packet.clock)) from packet.messages)))
+steps_to machine me core (event.Take from) [] (Some packet) = Some (came_of (begun (received (ticked core (max core.clock packet.clock)) from packet.messages)))
 steps_to machine me core (event.Take from) _ _ = None
 steps_to machine me core what slots None =
     if are_free core.body (slots_needed machine core what) slots then Some (happens machine me (ticked core core.clock) (slot_of slots) what) else None

@@ -1,5 +1,5 @@
 -- Global runs: the cores, with the packets that are under way between each two, step by step.
-use Rattle.std.specs.Prelude.{ℕ, zero, suc, ◌==◌, not, Bool, false, ◌||◌, nat_lt, if◌then◌else◌, List, [], ◌∷◌, ◌++◌, drop, slice_get, Option, Some, None}
+use Rattle.std.specs.Prelude.{ℕ, zero, suc, not, Bool, false, ◌||◌, nat_lt, if◌then◌else◌, List, [], ◌∷◌, ◌++◌, drop, slice_get, Option, Some, None}
 use Rattle.std.specs.Option.{option_map, option_and_then}
 use Rattle.gr_view.specs.Places.{put}
 use Rattle.gr_machine.specs.declared.event.Event.{Event}

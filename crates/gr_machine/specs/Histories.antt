@@ -10,7 +10,7 @@ use Rattle.gr_batch.specs.Folding.{wakes_of}
 use Rattle.gr_machine.specs.declared.mark.Mark.{Mark}
 use Rattle.gr_machine.specs.declared.mark.Mark.TheVariants as mark
 use Rattle.gr_machine.specs.Machines.{Machine}
-use Rattle.gr_machine.specs.GlobalRuns.{Step, Noted, Run, global_run}
+use Rattle.gr_machine.specs.GlobalRuns.{Step, Noted, global_run}
 
 -- The calls of the batches that have gone off, by core and number.
 abbrev pub Sent : Type 0

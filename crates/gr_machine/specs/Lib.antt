@@ -21,6 +21,7 @@ pub mod LocalRuns
 pub mod GlobalRuns
 pub mod Merges
 pub mod Histories
+pub mod Laws
 pub mod CounterRows
 pub mod RemoteRows
 pub mod WaitRows
@@ -28,6 +29,9 @@ pub mod LoopRows
 pub mod BatchRows
 pub mod TurnRows
 pub mod TrapRows
+pub mod EnrolRows
+pub mod ReduceRows
+pub mod NestedRows
 pub mod MergeRows
 pub mod EnabledRows
 pub mod StrayRows

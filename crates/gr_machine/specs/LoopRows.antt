@@ -1,11 +1,10 @@
 -- Worked rows of a loop that is split, and of which another core gets a part.
 -- array a[1]; task one(i) { a.add(0, i); } task main() { forall 0 .. 4 grain 1 one(); }
-use Rattle.std.specs.Prelude.{ℕ, List, [], ◌∷◌, slice_index_or, zero, suc}
+use Rattle.std.specs.Prelude.{List, [], ◌∷◌, slice_index_or, zero, suc}
 use Rattle.gr_lang.specs.declared.action.Action.TheVariants as action
 use Rattle.gr_lang.specs.declared.action.Op.TheVariants as op
 use Rattle.gr_lang.specs.declared.action.Entry.TheVariants as entry
 use Rattle.gr_lang.specs.declared.action.Entry.{Entry}
-use Rattle.gr_lang.specs.declared.action.Action.{Action}
 use Rattle.gr_lang.specs.Objects.{array}
 use Rattle.gr_lang.specs.Effects.{one}
 use Rattle.gr_msg.specs.declared.message.Unit.TheVariants as unit

@@ -1,5 +1,5 @@
 -- What a machine is given: the numbers of its setup, and what it takes of a program.
-use Rattle.std.specs.Prelude.{ℕ, ◌+◌, ◌%◌, ◌==◌, Bool, false, nat_lt, List, length, map, slice_get, Option, codes}
+use Rattle.std.specs.Prelude.{ℕ, ◌%◌, ◌==◌, Bool, false, nat_lt, List, length, map, slice_get, Option, codes}
 use Rattle.std.specs.Option.{option_map_or}
 use Rattle.gr_syntax.specs.declared.syntax.Program.{Program}
 use Rattle.gr_syntax.specs.Items.{TaskText, tasks_of}

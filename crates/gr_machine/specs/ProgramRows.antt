@@ -1,8 +1,6 @@
--- Worked rows of the programs of the worked runs: the histories that the runs tell are legal and complete for them, and scripts play their tasks.
-use Rattle.std.specs.Prelude.{◌≡◌, ℕ, true, List, [], ◌∷◌, ◌++◌, length, ◌/◌, None, codes, slice_index_or}
-use Rattle.std.specs.FinSet as set
+-- Worked rows of the programs of the worked runs: the histories that runs tell are legal and complete for them, and scripts play their tasks.
+use Rattle.std.specs.Prelude.{◌≡◌, ℕ, true, List, [], ◌∷◌, ◌++◌, length, ◌/◌, None, Some, codes, slice_index_or}
 use Rattle.gr_syntax.specs.declared.syntax.Program.{Program}
-use Rattle.gr_syntax.specs.declared.syntax.Name.{Name}
 use Rattle.gr_syntax.specs.declared.syntax.Item.{Item}
 use Rattle.gr_syntax.specs.declared.syntax.Item.TheVariants as item
 use Rattle.gr_syntax.specs.declared.syntax.Stmt.{Stmt}
@@ -13,7 +11,6 @@ use Rattle.gr_syntax.specs.declared.syntax.CallText.{CallText}
 use Rattle.gr_syntax.specs.declared.syntax.Right.TheVariants as right
 use Rattle.gr_syntax.specs.declared.syntax.HowText.TheVariants as place
 use Rattle.gr_syntax.specs.declared.syntax.BinOp.TheVariants as sign
-use Rattle.gr_lang.specs.declared.action.Action.{Action}
 use Rattle.gr_lang.specs.declared.action.Action.TheVariants as action
 use Rattle.gr_lang.specs.declared.action.Reply.{Reply}
 use Rattle.gr_lang.specs.Effects.{reply, nothing, one}
@@ -24,8 +21,12 @@ use Rattle.gr_machine.specs.RowWords.{Script}
 use Rattle.gr_machine.specs.CounterRows.{counter_script, counter_history}
 use Rattle.gr_machine.specs.RemoteRows.{remote_script, remote_history}
 use Rattle.gr_machine.specs.WaitRows.{waits_script, waits_history}
+use Rattle.gr_machine.specs.LoopRows.{looped_script}
 use Rattle.gr_machine.specs.BatchRows.{batch_script, batch_history}
 use Rattle.gr_machine.specs.TurnRows.{turn_script, turn_history}
+use Rattle.gr_machine.specs.EnrolRows.{enrolled_script, enrolled_history}
+use Rattle.gr_machine.specs.ReduceRows.{reduced_script, reduced_history}
+use Rattle.gr_machine.specs.NestedRows.{nested_script, nested_history}
 use Rattle.gr_machine.specs.TrapRows.{trapped_script, trapped_history}
 
 abbrev pub called : List ℕ → List ℕ → List Expr → CallText
@@ -47,7 +48,13 @@ abbrev pub waits : Program
 waits = program (item.Array (name (codes "a")) (number 1)
     ∷ named (codes "t") (codes "w") (stmt.Do (called (codes "a") (codes "add") (lit 0 ∷ local (codes "w") ∷ [])) ∷ [])
     ∷ main (stmt.Finish (stmt.Spawn place.Here (name (codes "t")) (lit 1 ∷ []) ∷ stmt.Spawn (place.At (lit 1)) (name (codes "t")) (lit 2 ∷ []) ∷ [])
-        ∷ let_be (codes "x") (called (codes "a") (codes "read") (lit 0 ∷ [])) ∷ stmt.Print (local (codes "x")) ∷ []) ∷ [])
+    ∷ let_be (codes "x") (called (codes "a") (codes "read") (lit 0 ∷ [])) ∷ stmt.Print (local (codes "x")) ∷ []) ∷ [])
+
+-- array a[1]; task one(i) { a.add(0, i); } task main() { forall 0 .. 4 grain 1 one(); }
+abbrev pub looped : Program
+looped = program (item.Array (name (codes "a")) (number 1)
+    ∷ named (codes "one") (codes "i") (stmt.Do (called (codes "a") (codes "add") (lit 0 ∷ local (codes "i") ∷ [])) ∷ [])
+    ∷ main (stmt.Forall (lit 0) (lit 4) (lit 1) (name (codes "one")) [] ∷ []) ∷ [])
 
 -- set s; task t() { let n = s.insert(9); print n; } task main() { finish { spawn t(); spawn t(); spawn t(); } }
 abbrev pub batch : Program
@@ -61,6 +68,25 @@ turn = program (item.Vector (name (codes "v"))
     ∷ named (codes "put") (codes "w") (stmt.Do (called (codes "v") (codes "push") (local (codes "w") ∷ [])) ∷ [])
     ∷ item.Task (name (codes "get")) [] (stmt.Set1 true (name (codes "f") ∷ name (codes "x") ∷ []) (right.Result (called (codes "v") (codes "pop") [])) ∷ stmt.Print (local (codes "x")) ∷ [])
     ∷ main (stmt.Finish (stmt.Spawn place.Here (name (codes "put")) (lit 5 ∷ []) ∷ stmt.Spawn place.Here (name (codes "get")) [] ∷ []) ∷ []) ∷ [])
+
+-- task k() { } task t() { spawn k(); } task main() { finish { spawn at 1 t(); spawn at 1 t(); } }
+abbrev pub enrolled : Program
+enrolled = program (item.Task (name (codes "k")) [] [] ∷ item.Task (name (codes "t")) [] (stmt.Spawn place.Here (name (codes "k")) [] ∷ [])
+    ∷ main (stmt.Finish (stmt.Spawn (place.At (lit 1)) (name (codes "t")) [] ∷ stmt.Spawn (place.At (lit 1)) (name (codes "t")) [] ∷ []) ∷ []) ∷ [])
+
+-- array a[2]; task one() { a.reduce add (1, 5); } task two() { a.reduce max (1, 9); } task main() { finish { spawn one(); spawn one(); spawn two(); spawn one(); } }
+abbrev pub reducing : List ℕ → List ℕ → ℕ → Item
+reducing task reducer word = item.Task (name task) [] (stmt.Do (record (called (codes "a") (codes "reduce") (lit 1 ∷ lit word ∷ [])) { reducer = Some (name reducer) }) ∷ [])
+
+abbrev pub reduced : Program
+reduced = program (item.Array (name (codes "a")) (number 2) ∷ reducing (codes "one") (codes "add") 5 ∷ reducing (codes "two") (codes "max") 9
+    ∷ main (stmt.Finish (stmt.Spawn place.Here (name (codes "one")) [] ∷ stmt.Spawn place.Here (name (codes "one")) []
+    ∷ stmt.Spawn place.Here (name (codes "two")) [] ∷ stmt.Spawn place.Here (name (codes "one")) [] ∷ []) ∷ []) ∷ [])
+
+-- task t() { } task main() { finish { finish { spawn t(); } spawn t(); } }
+abbrev pub nested : Program
+nested = program (item.Task (name (codes "t")) [] []
+    ∷ main (stmt.Finish (stmt.Finish (stmt.Spawn place.Here (name (codes "t")) [] ∷ []) ∷ stmt.Spawn place.Here (name (codes "t")) [] ∷ []) ∷ []) ∷ [])
 
 -- array a[1]; task main() { print 1; let x = a.read(0); print 1 / x; }
 abbrev pub trapped : Program
@@ -83,6 +109,15 @@ BatchIsComplete = complete batch 1 5 batch_history ≡ true
 
 abbrev pub TurnIsComplete : Type 0
 TurnIsComplete = complete turn 2 5 turn_history ≡ true
+
+abbrev pub EnrolledIsComplete : Type 0
+EnrolledIsComplete = complete enrolled 2 5 enrolled_history ≡ true
+
+abbrev pub ReducedIsComplete : Type 0
+ReducedIsComplete = complete reduced 2 5 reduced_history ≡ true
+
+abbrev pub NestedIsComplete : Type 0
+NestedIsComplete = complete nested 1 5 nested_history ≡ true
 
 abbrev pub TrappedIsLegal : Type 0
 TrappedIsLegal = legal trapped 1 5 trapped_history ≡ true
@@ -108,6 +143,11 @@ abbrev pub WaitsPlay : Type 0
 WaitsPlay = PlaysFrom waits waits_script 0 (1 ∷ []) (one 0 ∷ []) × PlaysFrom waits waits_script 0 (2 ∷ []) (one 1 ∷ [])
     × PlaysFrom waits waits_script 1 [] (nothing ∷ nothing ∷ nothing ∷ nothing ∷ one 3 ∷ nothing ∷ [])
 
+abbrev pub LoopedPlays : Type 0
+LoopedPlays = PlaysFrom looped looped_script 0 (0 ∷ []) (one 0 ∷ []) × PlaysFrom looped looped_script 0 (1 ∷ []) (one 0 ∷ [])
+    × PlaysFrom looped looped_script 0 (2 ∷ []) (one 1 ∷ []) × PlaysFrom looped looped_script 0 (3 ∷ []) (one 3 ∷ [])
+    × PlaysFrom looped looped_script 1 [] (nothing ∷ [])
+
 abbrev pub BatchPlays : Type 0
 BatchPlays = PlaysFrom batch batch_script 0 [] (one 1 ∷ nothing ∷ []) × PlaysFrom batch batch_script 0 [] (one 0 ∷ nothing ∷ [])
     × PlaysFrom batch batch_script 1 [] (nothing ∷ nothing ∷ nothing ∷ nothing ∷ nothing ∷ [])
@@ -115,6 +155,17 @@ BatchPlays = PlaysFrom batch batch_script 0 [] (one 1 ∷ nothing ∷ []) × Pla
 abbrev pub TurnPlays : Type 0
 TurnPlays = PlaysFrom turn turn_script 0 (5 ∷ []) (nothing ∷ []) × PlaysFrom turn turn_script 1 [] (reply 1 5 ∷ nothing ∷ [])
     × PlaysFrom turn turn_script 2 [] (nothing ∷ nothing ∷ nothing ∷ nothing ∷ [])
+
+abbrev pub EnrolledPlays : Type 0
+EnrolledPlays = PlaysFrom enrolled enrolled_script 0 [] [] × PlaysFrom enrolled enrolled_script 1 [] (nothing ∷ [])
+    × PlaysFrom enrolled enrolled_script 2 [] (nothing ∷ nothing ∷ nothing ∷ nothing ∷ [])
+
+abbrev pub ReducedPlays : Type 0
+ReducedPlays = PlaysFrom reduced reduced_script 0 [] (one 0 ∷ []) × PlaysFrom reduced reduced_script 1 [] (one 10 ∷ [])
+    × PlaysFrom reduced reduced_script 2 [] (nothing ∷ nothing ∷ nothing ∷ nothing ∷ nothing ∷ nothing ∷ [])
+
+abbrev pub NestedPlays : Type 0
+NestedPlays = PlaysFrom nested nested_script 0 [] [] × PlaysFrom nested nested_script 1 [] (nothing ∷ nothing ∷ nothing ∷ nothing ∷ nothing ∷ nothing ∷ [])
 
 abbrev pub TrappedPlays : Type 0
 TrappedPlays = PlaysFrom trapped trapped_script 0 [] (nothing ∷ one 0 ∷ [])

@@ -1,11 +1,10 @@
 -- Worked rows of a call whose home is another core.
 -- array a[2]; task main() { let x = a.add(1, 5); print x; }
-use Rattle.std.specs.Prelude.{ℕ, List, [], ◌∷◌, slice_index_or}
+use Rattle.std.specs.Prelude.{List, [], ◌∷◌, slice_index_or}
 use Rattle.gr_lang.specs.declared.action.Action.TheVariants as action
 use Rattle.gr_lang.specs.declared.action.Op.TheVariants as op
 use Rattle.gr_lang.specs.declared.action.Entry.TheVariants as entry
 use Rattle.gr_lang.specs.declared.action.Entry.{Entry}
-use Rattle.gr_lang.specs.declared.action.Action.{Action}
 use Rattle.gr_lang.specs.Objects.{array}
 use Rattle.gr_lang.specs.Effects.{nothing, one}
 use Rattle.gr_msg.specs.declared.message.Msg.TheVariants as msg

@@ -1,5 +1,5 @@
 -- Serve: a call on a word, on the blocks of the heap or a print is made at its home, and its reply taken.
-use Rattle.std.specs.Prelude.{ℕ, ◌+◌, ◌-◌, ◌==◌, ◌&&◌, ◌^◌, Bool, nat_lt, nat_le, if◌then◌else◌, List, [], ◌∷◌, Option, Some, None, is_some}
+use Rattle.std.specs.Prelude.{ℕ, ◌+◌, ◌-◌, ◌==◌, ◌&&◌, ◌^◌, nat_lt, nat_le, if◌then◌else◌, List, [], ◌∷◌, Option, Some, None, is_some}
 use Rattle.std.specs.Ordering.{nat_cmp}
 use Rattle.std.specs.FinMap as map
 use Rattle.gr_syntax.specs.declared.limits.TheConstants.{HEAP}
@@ -15,7 +15,7 @@ use Rattle.gr_view.specs.Places.{put}
 use Rattle.gr_msg.specs.declared.message.Msg.TheVariants as msg
 use Rattle.gr_machine.specs.Machines.{Machine, home, place}
 use Rattle.gr_machine.specs.States.{Body}
-use Rattle.gr_machine.specs.Outcomes.{Send, Outcome, to, marked, quietly}
+use Rattle.gr_machine.specs.Outcomes.{Outcome, to, marked, quietly}
 use Rattle.gr_machine.specs.Slots.{awaits_reply, task_awaits, resumed}
 
 -- A call is made for the task in a slot of another core: the reply is sent back, and the call marked with it.

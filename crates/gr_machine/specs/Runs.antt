@@ -8,9 +8,9 @@ use Rattle.gr_msg.specs.declared.message.ScopeId.{ScopeId}
 use Rattle.gr_msg.specs.declared.message.Unit.{Unit as WorkUnit}
 use Rattle.gr_msg.specs.declared.message.Unit.TheVariants as unit
 use Rattle.gr_work.specs.Parts.{with_split}
-use Rattle.gr_work.specs.Queues.{Queues, next_unit, after_next}
+use Rattle.gr_work.specs.Queues.{next_unit, after_next}
 use Rattle.gr_machine.specs.Machines.{Machine, has_task}
-use Rattle.gr_machine.specs.States.{Suspended, Tasks, Body}
+use Rattle.gr_machine.specs.States.{Suspended, Body}
 use Rattle.gr_machine.specs.Openings.{new_task}
 use Rattle.gr_machine.specs.Outcomes.{Outcome, marked, quietly}
 use Rattle.gr_machine.specs.Slots.{readied, numbered, own_id}

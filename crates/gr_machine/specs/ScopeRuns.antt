@@ -1,5 +1,5 @@
 -- Run: a ready task opens a finish or a loop, arrives at the end of a finish, or ends.
-use Rattle.std.specs.Prelude.{ℕ, ◌+◌, ◌-◌, ◌&&◌, not, Bool, false, nat_lt, nat_le, if◌then◌else◌, List, [], ◌∷◌, ◌++◌, drop, Option, Some, None, is_none, is_some}
+use Rattle.std.specs.Prelude.{ℕ, ◌+◌, ◌-◌, ◌&&◌, not, Bool, false, nat_lt, nat_le, if◌then◌else◌, List, [], ◌∷◌, ◌++◌, drop, Option, Some, None, is_none}
 use Rattle.std.specs.Option.{option_map, option_map_or}
 use Rattle.gr_lang.specs.declared.action.Entry.TheVariants as entry
 use Rattle.gr_lang.specs.Effects.{nothing}
@@ -117,14 +117,18 @@ arrived body scope slot = record body {
   };
 }
 
+-- The task waits for the end of the scope.
+abbrev pub arrives_early : Body → ℕ → Suspended → ScopeId → Outcome
+arrives_early body slot task scope = quietly (waiting body slot task (for_scope scope))
+
 -- This core has left the scope: the task waits for others that are active, or passes.
 abbrev pub arrives_last : Machine → Body → ℕ → Suspended → ScopeId → Release → Outcome
-arrives_last machine body slot task scope release.Held = quietly (waiting (with_leave body scope) slot task (for_scope scope))
+arrives_last machine body slot task scope release.Held = arrives_early (with_leave body scope) slot task scope
 arrives_last machine body slot task scope (release.Released who) = passes machine (with_leave body scope) slot task
 
 -- The core counts on, and the task waits; or this core leaves the scope in the same event.
 abbrev pub arrives_with : Machine → Body → ℕ → Suspended → ScopeId → LocalLeft → Outcome
-arrives_with machine body slot task scope rest.More = quietly (waiting body slot task (for_scope scope))
+arrives_with machine body slot task scope rest.More = arrives_early body slot task scope
 arrives_with machine body slot task scope rest.Zero = arrives_last machine body slot task scope (release_of (released (body.scopes.masters scope)))
 
 -- The scope is counted here, its master is here, and nobody waits there.
@@ -140,8 +144,8 @@ arrives machine body slot task [] = dropped body slot
 arrives machine body slot task (scope ∷ scopes) = arrives_in machine body slot task scope
 
 -- The task ends, and the core that counts it is told.
+abbrev pub ends_at : Body → ℕ → Suspended → Outcome
+ends_at body slot task = record { body = with_slot body slot None; sends = to task.origin (msg.Complete task.scope 1); marks = marked (entry.End task.id) }
+
 abbrev pub ends : Machine → Body → ℕ → Suspended → Outcome
-ends machine body slot task =
-    if is_core machine task.origin
-    then record { body = with_slot body slot None; sends = to task.origin (msg.Complete task.scope 1); marks = marked (entry.End task.id) }
-    else dropped body slot
+ends machine body slot task = if is_core machine task.origin then ends_at body slot task else dropped body slot

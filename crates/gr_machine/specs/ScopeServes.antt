@@ -36,11 +36,11 @@ abbrev pub can_enrol_one : Option Master → Bool
 can_enrol_one master = option_map_or (λ active. nat_lt active (2 ^ 63)) (active_of master) false
 
 -- The core that asks is active in the scope.
-abbrev pub enrolled_at : Body → ℕ → ScopeId → Option Master → Outcome
-enrolled_at body from scope master = record { body = with_master body scope (option_map enrol_one master); sends = to from (msg.EnrolAck scope); marks = [] }
+abbrev pub core_enrolled_at : Body → ℕ → ScopeId → Option Master → Outcome
+core_enrolled_at body from scope master = record { body = with_master body scope (option_map enrol_one master); sends = to from (msg.EnrolAck scope); marks = [] }
 
-abbrev pub enrolled : Body → ℕ → ScopeId → Option Master → Option Outcome
-enrolled body from scope master = if can_enrol_one master then Some (enrolled_at body from scope master) else None
+abbrev pub core_enrolled : Body → ℕ → ScopeId → Option Master → Option Outcome
+core_enrolled body from scope master = if can_enrol_one master then Some (core_enrolled_at body from scope master) else None
 
 -- The task in a slot makes the unit for which it waited.
 abbrev pub planted_by : Machine → ℕ → Body → ℕ → Suspended → Action → Outcome

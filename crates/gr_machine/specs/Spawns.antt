@@ -64,15 +64,18 @@ planted machine me body slot task way target args = followed
 abbrev pub with_count : Body → ScopeId → Option LocalCount → Body
 with_count body scope count = record body { scopes = record body.scopes { counts = put_scope body.scopes.counts scope count } }
 
--- The new task is counted; or its core asks the scope's home whether it may count, the task waits; or it waits behind others.
+-- The core asks the scope's home whether it may count, and the task waits; or the task waits behind others.
+abbrev pub asks_enrolment : Body → ℕ → Suspended → ScopeId → Outcome
+asks_enrolment body slot task scope = record { body = waiting body slot task (for_enrolment scope); sends = to scope.core (msg.Enrol scope); marks = [] }
+
+abbrev pub waits_enrolment : Body → ℕ → Suspended → ScopeId → Outcome
+waits_enrolment body slot task scope = quietly (waiting body slot task (for_enrolment scope))
+
+-- The new task is counted and made, or one of the others.
 abbrev pub enrolled_as : Machine → ℕ → Body → ℕ → Suspended → How → ℕ → List ℕ → Enrol → Outcome
 enrolled_as machine me body slot task way target args enrol.Counted = planted machine me body slot task way target args
-enrolled_as machine me body slot task way target args enrol.Ask = record {
-  body = waiting body slot task (for_enrolment (innermost task));
-  sends = to (innermost task).core (msg.Enrol (innermost task));
-  marks = [];
-}
-enrolled_as machine me body slot task way target args enrol.Waiting = quietly (waiting body slot task (for_enrolment (innermost task)))
+enrolled_as machine me body slot task way target args enrol.Ask = asks_enrolment body slot task (innermost task)
+enrolled_as machine me body slot task way target args enrol.Waiting = waits_enrolment body slot task (innermost task)
 
 abbrev pub enrols : Machine → ℕ → Body → ℕ → Suspended → How → ℕ → List ℕ → Option LocalCount → Outcome
 enrols machine me body slot task way target args count =

@@ -1,5 +1,5 @@
 -- Worked rows of what finds nothing to act on.
-use Rattle.std.specs.Prelude.{◌≡◌, ℕ, ◌-◌, ◌^◌, Bool, true, List, [], ◌∷◌, map, replicate, is_none, Option, Some, None}
+use Rattle.std.specs.Prelude.{◌≡◌, ◌^◌, Bool, true, List, [], ◌∷◌, map, replicate, is_none, Some, None}
 use Rattle.std.specs.FinSet as set
 use Rattle.gr_lang.specs.declared.action.Effect.TheVariants as effect
 use Rattle.gr_lang.specs.declared.action.How.TheVariants as how
@@ -7,7 +7,6 @@ use Rattle.gr_lang.specs.declared.action.Op.TheVariants as op
 use Rattle.gr_lang.specs.declared.action.Action.{Action}
 use Rattle.gr_lang.specs.declared.action.Action.TheVariants as action
 use Rattle.gr_lang.specs.Objects.{array, keys, line}
-use Rattle.gr_event.specs.Scopes.{put_scope}
 use Rattle.gr_event.specs.declared.counts.LocalCount.TheVariants as count
 use Rattle.gr_msg.specs.declared.message.Unit.{Unit as WorkUnit}
 use Rattle.gr_msg.specs.declared.message.Unit.TheVariants as unit
@@ -16,7 +15,6 @@ use Rattle.gr_msg.specs.declared.message.Msg.TheVariants as msg
 use Rattle.gr_machine.specs.Machines.{Machine}
 use Rattle.gr_machine.specs.States.{Suspended, Body, Core}
 use Rattle.gr_machine.specs.Openings.{opening_core, main_task}
-use Rattle.gr_machine.specs.Outcomes.{Outcome}
 use Rattle.gr_machine.specs.Slots.{dropped}
 use Rattle.gr_machine.specs.Spawns.{with_count}
 use Rattle.gr_machine.specs.ScopeRuns.{with_master}

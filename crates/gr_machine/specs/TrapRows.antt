@@ -1,12 +1,11 @@
 -- Worked rows of a trap.
 -- array a[1]; task main() { print 1; let x = a.read(0); print 1 / x; }
-use Rattle.std.specs.Prelude.{ℕ, List, [], ◌∷◌}
+use Rattle.std.specs.Prelude.{List, [], ◌∷◌}
 use Rattle.gr_lang.specs.declared.action.Action.TheVariants as action
 use Rattle.gr_lang.specs.declared.action.Op.TheVariants as op
 use Rattle.gr_lang.specs.declared.action.Entry.TheVariants as entry
 use Rattle.gr_lang.specs.declared.action.TrapKind.TheVariants as trap
 use Rattle.gr_lang.specs.declared.action.Entry.{Entry}
-use Rattle.gr_lang.specs.declared.action.Action.{Action}
 use Rattle.gr_lang.specs.Objects.{array}
 use Rattle.gr_lang.specs.Effects.{nothing, one}
 use Rattle.gr_msg.specs.declared.message.Msg.TheVariants as msg

@@ -1,12 +1,11 @@
 -- Worked rows of a turn of a vector that pushes a word and pops it again.
 -- vector v; task put(w) { v.push(w); } task get() { let f, x = v.pop(); print x; } task main() { finish { spawn put(5); spawn get(); } }
-use Rattle.std.specs.Prelude.{ℕ, List, [], ◌∷◌, ◌++◌, slice_index_or, None, Some, zero, suc}
+use Rattle.std.specs.Prelude.{List, [], ◌∷◌, ◌++◌, slice_index_or, None, Some, zero, suc}
 use Rattle.gr_lang.specs.declared.action.Action.TheVariants as action
 use Rattle.gr_lang.specs.declared.action.Op.TheVariants as op
 use Rattle.gr_lang.specs.declared.action.How.TheVariants as how
 use Rattle.gr_lang.specs.declared.action.Entry.TheVariants as entry
 use Rattle.gr_lang.specs.declared.action.Entry.{Entry}
-use Rattle.gr_lang.specs.declared.action.Action.{Action}
 use Rattle.gr_lang.specs.Objects.{line}
 use Rattle.gr_lang.specs.Effects.{reply, nothing}
 use Rattle.gr_msg.specs.declared.message.Msg.TheVariants as msg

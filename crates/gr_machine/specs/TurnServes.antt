@@ -1,5 +1,5 @@
 -- Serve: turns of vectors are asked for, granted and ended; a turn puts words at the homes of their positions, and gets words from there.
-use Rattle.std.specs.Prelude.{ℕ, ◌+◌, ◌-◌, ◌==◌, ◌&&◌, ◌^◌, Bool, true, false, nat_lt, nat_le, if◌then◌else◌, List, [], ◌∷◌, ◌++◌, length, map, drop, Option, Some, None}
+use Rattle.std.specs.Prelude.{ℕ, ◌+◌, ◌-◌, ◌==◌, ◌&&◌, ◌^◌, Bool, false, nat_lt, nat_le, if◌then◌else◌, List, [], ◌∷◌, ◌++◌, length, map, drop, Option, Some, None}
 use Rattle.std.specs.List.{list_any, zip}
 use Rattle.gr_lang.specs.declared.action.Entry.TheVariants as entry
 use Rattle.gr_lang.specs.declared.action.Reply.{Reply}
@@ -105,9 +105,9 @@ element_put body from number position word vector None = Some (record {
   marks = [];
 })
 
-abbrev pub stored : Body → ℕ → ℕ → ℕ → ℕ → Option Vector → Option Outcome
-stored body from number position word None = None
-stored body from number position word (Some vector) = element_put body from number position word vector (vector.part position)
+abbrev pub element_stored : Body → ℕ → ℕ → ℕ → ℕ → Option Vector → Option Outcome
+element_stored body from number position word None = None
+element_stored body from number position word (Some vector) = element_put body from number position word vector (vector.part position)
 
 -- The word at a position is taken out.
 abbrev pub element_got : Body → ℕ → ℕ → ℕ → Vector → Option ℕ → Option Outcome
@@ -118,9 +118,9 @@ element_got body from number position vector (Some word) = Some (record {
   marks = [];
 })
 
-abbrev pub fetched : Body → ℕ → ℕ → ℕ → Option Vector → Option Outcome
-fetched body from number position None = None
-fetched body from number position (Some vector) = element_got body from number position vector (vector.part position)
+abbrev pub element_fetched : Body → ℕ → ℕ → ℕ → Option Vector → Option Outcome
+element_fetched body from number position None = None
+element_fetched body from number position (Some vector) = element_got body from number position vector (vector.part position)
 
 -- Answers
 

@@ -1,12 +1,11 @@
 -- Worked rows of a finish that waits for a task at its own core and for one at another.
 -- array a[1]; task t(w) { a.add(0, w); } task main() { finish { spawn t(1); spawn at 1 t(2); } let x = a.read(0); print x; }
-use Rattle.std.specs.Prelude.{ℕ, List, [], ◌∷◌, slice_index_or, zero, suc}
+use Rattle.std.specs.Prelude.{List, [], ◌∷◌, slice_index_or, zero, suc}
 use Rattle.gr_lang.specs.declared.action.Action.TheVariants as action
 use Rattle.gr_lang.specs.declared.action.Op.TheVariants as op
 use Rattle.gr_lang.specs.declared.action.How.TheVariants as how
 use Rattle.gr_lang.specs.declared.action.Entry.TheVariants as entry
 use Rattle.gr_lang.specs.declared.action.Entry.{Entry}
-use Rattle.gr_lang.specs.declared.action.Action.{Action}
 use Rattle.gr_lang.specs.Objects.{array}
 use Rattle.gr_lang.specs.Effects.{nothing, one}
 use Rattle.gr_msg.specs.declared.message.Unit.TheVariants as unit

@@ -14,6 +14,7 @@ pub fn enabled_rows()
     ensures remote { events.RemoteEnabled }
     ensures batch { events.BatchEnabled }
     ensures calls { events.CallsFill }
+    ensures messages { events.MessagesFill }
     ensures none { events.NothingMore }
 {}
 

@@ -6,6 +6,7 @@ mod counts;
 mod event;
 mod event_rows;
 mod journal;
+mod laws;
 mod mark;
 mod program_rows;
 mod run_rows;
@@ -15,11 +16,8 @@ pub use counts::Counts;
 pub use event::Event;
 pub use event_rows::{enabled_rows, merge_rows, stray_rows};
 pub use journal::{Journal, Marks, Stamped, StampedMark};
+pub use laws::events_are_local;
 pub use mark::Mark;
-pub use program_rows::{
-    batch_program, counter_program, remote_program, trapped_program, turn_program, waits_program,
-};
-pub use run_rows::{
-    batch_rows, counter_rows, looped_rows, remote_rows, trapped_rows, turn_rows, waits_rows,
-};
+pub use program_rows::programs_of_runs;
+pub use run_rows::{runs_on_one_core, runs_on_two_cores};
 pub use setup::Setup;

@@ -5,9 +5,14 @@ use gr_lang::{Calls, Entry};
 #[derive(Drop)]
 pub enum Mark {
     /// An entry of the history.
-    Entry { entry: Entry },
+    Entry {
+        entry: Entry,
+    },
     /// The calls of a batch went off to its home.
-    Closed { batch: u64, calls: Calls },
+    Closed {
+        batch: u64,
+        calls: Calls,
+    },
     /// The batch of that number of its origin took effect here, where this stood before.
     Applied {
         origin: u64,

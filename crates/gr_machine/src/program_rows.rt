@@ -1,39 +1,26 @@
-//! The programs of the worked runs: the histories that the runs tell are legal and complete, and the scripts that the
-//! tasks of the runs play are what the programs do.
+//! The programs of the worked runs.
 ghost use Rattle.gr_machine.specs.ProgramRows as rows;
 
-/// The first program.
-pub fn counter_program()
-    ensures complete { rows.CounterIsComplete }
-    ensures plays { rows.CounterPlays }
-{}
-
-/// The call at another core.
-pub fn remote_program()
-    ensures complete { rows.RemoteIsComplete }
-    ensures plays { rows.RemotePlays }
-{}
-
-/// The finish with a task at another core.
-pub fn waits_program()
-    ensures complete { rows.WaitsIsComplete }
-    ensures plays { rows.WaitsPlay }
-{}
-
-/// Three inserts.
-pub fn batch_program()
-    ensures complete { rows.BatchIsComplete }
-    ensures plays { rows.BatchPlays }
-{}
-
-/// The push and the pop.
-pub fn turn_program()
-    ensures complete { rows.TurnIsComplete }
-    ensures plays { rows.TurnPlays }
-{}
-
-/// The trap.
-pub fn trapped_program()
-    ensures legal { rows.TrappedIsLegal }
-    ensures plays { rows.TrappedPlays }
+/// The histories that runs tell are legal for their programs, and complete but for that of a trap; and the scripts that
+/// the tasks of the runs play are what the programs do.
+pub fn programs_of_runs()
+    ensures counter { rows.CounterIsComplete }
+    ensures counter_script { rows.CounterPlays }
+    ensures remote { rows.RemoteIsComplete }
+    ensures remote_script { rows.RemotePlays }
+    ensures waits { rows.WaitsIsComplete }
+    ensures waits_script { rows.WaitsPlay }
+    ensures loop_script { rows.LoopedPlays }
+    ensures batch { rows.BatchIsComplete }
+    ensures batch_script { rows.BatchPlays }
+    ensures turn { rows.TurnIsComplete }
+    ensures turn_script { rows.TurnPlays }
+    ensures enrolled { rows.EnrolledIsComplete }
+    ensures enrolled_script { rows.EnrolledPlays }
+    ensures reduced { rows.ReducedIsComplete }
+    ensures reduced_script { rows.ReducedPlays }
+    ensures nested { rows.NestedIsComplete }
+    ensures nested_script { rows.NestedPlays }
+    ensures trapped { rows.TrappedIsLegal }
+    ensures trapped_script { rows.TrappedPlays }
 {}

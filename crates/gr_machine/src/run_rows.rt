@@ -1,50 +1,42 @@
 //! The worked runs, each the contract of a function that does nothing.
-ghost use Rattle.gr_machine.specs.CounterRows as counter;
-ghost use Rattle.gr_machine.specs.RemoteRows as remote;
-ghost use Rattle.gr_machine.specs.WaitRows as waits;
-ghost use Rattle.gr_machine.specs.LoopRows as looped;
 ghost use Rattle.gr_machine.specs.BatchRows as batch;
-ghost use Rattle.gr_machine.specs.TurnRows as turn;
+ghost use Rattle.gr_machine.specs.CounterRows as counter;
+ghost use Rattle.gr_machine.specs.EnrolRows as enrolled;
+ghost use Rattle.gr_machine.specs.LoopRows as looped;
+ghost use Rattle.gr_machine.specs.NestedRows as nested;
+ghost use Rattle.gr_machine.specs.ReduceRows as reduced;
+ghost use Rattle.gr_machine.specs.RemoteRows as remote;
 ghost use Rattle.gr_machine.specs.TrapRows as trapped;
+ghost use Rattle.gr_machine.specs.TurnRows as turn;
+ghost use Rattle.gr_machine.specs.WaitRows as waits;
 
-/// A program on one core, event by event.
-pub fn counter_rows()
-    ensures run { counter.CounterRun }
-    ensures ends { counter.CounterEnds }
+/// Runs on one core: a program event by event, three inserts of one key that go off
+/// as one batch, a finish in a finish, and a trap.
+pub fn runs_on_one_core()
+    ensures counter { counter.CounterRun }
+    ensures counter_ends { counter.CounterEnds }
+    ensures batch { batch.BatchRun }
+    ensures batch_ends { batch.BatchEnds }
+    ensures trapped { trapped.TrappedRun }
+    ensures trapped_ends { trapped.TrappedEnds }
+    ensures nested { nested.NestedRun }
+    ensures nested_ends { nested.NestedEnds }
 {}
 
-/// A call whose home is another core.
-pub fn remote_rows()
-    ensures run { remote.RemoteRun }
-    ensures ends { remote.RemoteEnds }
-{}
-
-/// A finish that waits for a task at its own core and for one at another.
-pub fn waits_rows()
-    ensures run { waits.WaitsRun }
-    ensures ends { waits.WaitsEnds }
-{}
-
-/// A loop that is split, and of which another core gets a part.
-pub fn looped_rows()
-    ensures run { looped.LoopedRun }
-    ensures ends { looped.LoopedEnds }
-{}
-
-/// Three inserts of one key, which go off as one batch.
-pub fn batch_rows()
-    ensures run { batch.BatchRun }
-    ensures ends { batch.BatchEnds }
-{}
-
-/// A turn of a vector that pushes a word and pops it again.
-pub fn turn_rows()
-    ensures run { turn.TurnRun }
-    ensures ends { turn.TurnEnds }
-{}
-
-/// A trap.
-pub fn trapped_rows()
-    ensures run { trapped.TrappedRun }
-    ensures ends { trapped.TrappedEnds }
+/// Runs on two cores: a call whose home is the other core; a finish that waits for a task there; a loop that is split
+/// and stolen from; a turn of a vector; tasks that wait for an enrolment; and reduces of which not all fold.
+pub fn runs_on_two_cores()
+    ensures remote { remote.RemoteRun }
+    ensures remote_ends { remote.RemoteEnds }
+    ensures waits { waits.WaitsRun }
+    ensures waits_ends { waits.WaitsEnds }
+    ensures looped { looped.LoopedRun }
+    ensures looped_ends { looped.LoopedEnds }
+    ensures turn { turn.TurnRun }
+    ensures turn_ends { turn.TurnEnds }
+    ensures enrolled { enrolled.EnrolledRun }
+    ensures enrolled_ends { enrolled.EnrolledEnds }
+    ensures reduced { reduced.ReducedRun }
+    ensures reduced_ends { reduced.ReducedEnds }
+    ensures enrolled_counts { enrolled.EnrolledCounts }
 {}

@@ -1,5 +1,5 @@
 -- Messages between cores, for any kind of message, of state and of mark.
-use Rattle.std.specs.Prelude.{ℕ, List, [], ◌∷◌}
+use Rattle.std.specs.Prelude.{ℕ, List}
 
 -- A message in an inbox, with the core that sent it.
 pub record Letter (Message : Type 0) : Type 0 where

@@ -10,5 +10,8 @@ returns-clause-batch c = rows.batch_enabled
 pub returns-clause-calls : goal.returns-clause-calls
 returns-clause-calls c = rows.calls_fill
 
+pub returns-clause-messages : goal.returns-clause-messages
+returns-clause-messages c = rows.messages_fill
+
 pub returns-clause-none : goal.returns-clause-none
 returns-clause-none c = rows.nothing_more

@@ -1,8 +1,0 @@
-use Rattle.gr_machine.proofs.ProgramRows as rows
-use Rattle.gr_machine.proofs.program_rows.waits_program.Goals as goal
-
-pub returns-clause-complete : goal.returns-clause-complete
-returns-clause-complete c = rows.waits_complete
-
-pub returns-clause-plays : goal.returns-clause-plays
-returns-clause-plays c = rows.waits_play
