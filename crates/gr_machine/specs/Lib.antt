@@ -22,6 +22,7 @@ pub mod GlobalRuns
 pub mod Merges
 pub mod Histories
 pub mod Laws
+pub mod Nets
 pub mod CounterRows
 pub mod RemoteRows
 pub mod WaitRows
@@ -35,6 +36,7 @@ pub mod NestedRows
 pub mod MergeRows
 pub mod EnabledRows
 pub mod StrayRows
+pub mod RequestRows
 pub mod ProgramRows
 -- For proofs and private functions.
 pub mod RowWords

@@ -1,13 +1,7 @@
-//! Worked rows of merges, of enabled events and of what finds nothing to act on.
+//! Worked rows of single events.
 ghost use Rattle.gr_machine.specs.EnabledRows as events;
-ghost use Rattle.gr_machine.specs.MergeRows as merges;
+ghost use Rattle.gr_machine.specs.RequestRows as requests;
 ghost use Rattle.gr_machine.specs.StrayRows as strays;
-
-/// The merge of two journals, and the histories of merges.
-pub fn merge_rows()
-    ensures order { merges.RemoteMerge }
-    ensures runs { merges.MergesRun }
-{}
 
 /// Which events are enabled before each event of a run, and that none is behind a trap or the end.
 pub fn enabled_rows()
@@ -18,8 +12,10 @@ pub fn enabled_rows()
     ensures none { events.NothingMore }
 {}
 
-/// Messages, units and actions that find nothing to act on.
-pub fn stray_rows()
+/// Each call that a home makes for a request; and messages, units and actions that find nothing to act on.
+pub fn single_rows()
+    ensures words { requests.WordsAreCalled }
+    ensures blocks { requests.BlocksAreMade }
     ensures messages { strays.StraysFindNothing }
     ensures gone { strays.StrayIsGone }
     ensures scope { strays.FullScopeFindsNothing }

@@ -1,5 +1,12 @@
 use Rattle.gr_machine.proofs.EventRows as rows
-use Rattle.gr_machine.proofs.event_rows.stray_rows.Goals as goal
+use Rattle.gr_machine.proofs.RequestRows as rows2
+use Rattle.gr_machine.proofs.event_rows.single_rows.Goals as goal
+
+pub returns-clause-words : goal.returns-clause-words
+returns-clause-words c = rows2.words_called
+
+pub returns-clause-blocks : goal.returns-clause-blocks
+returns-clause-blocks c = rows2.blocks_made
 
 pub returns-clause-messages : goal.returns-clause-messages
 returns-clause-messages c = rows.strays_find_nothing
