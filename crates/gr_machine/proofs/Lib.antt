@@ -1,0 +1,8 @@
+mod RunRows
+mod EventRows
+mod RequestRows
+mod ProgramRows
+pub mod ActionFacts
+pub mod ServeFacts
+mod Runs
+pub mod Nets

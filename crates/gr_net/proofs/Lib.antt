@@ -1,0 +1,4 @@
+pub mod Spreads
+pub mod Flights
+pub mod Acts
+pub mod Views
