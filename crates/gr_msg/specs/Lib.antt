@@ -1,1 +1,10 @@
 pub mod Scopes
+pub mod Parts
+pub mod Messages
+pub mod Ranges
+pub mod Decoding
+pub mod Laws
+pub mod Rows
+pub mod FieldWords
+pub mod PacketView
+pub mod RefusalWords

@@ -1,0 +1,5 @@
+pub mod Formats
+pub mod Readers
+pub mod Writing
+pub mod Laws
+pub mod Rows

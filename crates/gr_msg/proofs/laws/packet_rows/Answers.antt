@@ -1,0 +1,12 @@
+use Rattle.std.proofs.Common.{refl}
+use Rattle.gr_format.specs.Formats.{begins, reading, opened, ranged, ◌>>=◌, times}
+use Rattle.gr_msg.specs.Messages.{kind, of_kind, message, packet}
+use Rattle.gr_msg.proofs.laws.packet_rows.Goals as goal
+
+pub returns-clause-read : goal.returns-clause-read
+unfolding begins reading opened ranged ◌>>=◌ times kind of_kind message packet
+returns-clause-read c = refl
+
+pub returns-clause-faults : goal.returns-clause-faults
+unfolding begins reading opened ranged ◌>>=◌ times kind of_kind message packet
+returns-clause-faults c = (refl, refl, refl, refl, refl)
