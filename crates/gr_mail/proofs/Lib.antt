@@ -1,0 +1,4 @@
+pub mod Ends
+pub mod Mails
+pub mod Grids
+pub mod Making
