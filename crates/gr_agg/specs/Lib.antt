@@ -1,0 +1,4 @@
+pub mod Buffers
+pub mod Aggregates
+pub mod Laws
+pub mod Rows
