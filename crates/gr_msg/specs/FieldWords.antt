@@ -59,24 +59,42 @@ with_scope kind scope = Byte kind ∷ scope_fields scope
 abbrev pub batch_fields : ℕ → ℕ → Effect → ℕ → List Field
 batch_fields object key effect batch = (Byte 11 ∷ Byte object ∷ Word key ∷ effect_fields effect) ++ Word batch ∷ []
 
+abbrev pub request_fields : ℕ → TaskId → ℕ → ℕ → ℕ → ℕ → List Field
+request_fields slot id operation x y z = Byte 1 ∷ Word slot ∷ task_fields id ++ Byte operation ∷ Word x ∷ Word y ∷ Word z ∷ []
+
+abbrev pub reply_fields : ℕ → TaskId → ℕ → ℕ → List Field
+reply_fields slot id first second = Byte 2 ∷ Word slot ∷ task_fields id ++ Word first ∷ Word second ∷ []
+
+abbrev pub complete_fields : ScopeId → ℕ → List Field
+complete_fields scope count = with_scope 6 scope ++ Word count ∷ []
+
+abbrev pub pair_fields : ℕ → ℕ → ℕ → ℕ → List Field
+pair_fields kind vector first second = Byte kind ∷ Byte vector ∷ Word first ∷ Word second ∷ []
+
+abbrev pub position_fields : ℕ → ℕ → List Field
+position_fields vector position = Byte 16 ∷ Byte vector ∷ Word position ∷ []
+
+abbrev pub answer_fields : ℕ → ℕ → Option ℕ → List Field
+answer_fields vector position got = Byte 17 ∷ Byte vector ∷ Word position ∷ option_fields got
+
 abbrev pub fields : Msg → List Field
-fields (msg.Request slot id operation x y z) = Byte 1 ∷ Word slot ∷ task_fields id ++ Byte operation ∷ Word x ∷ Word y ∷ Word z ∷ []
-fields (msg.Reply slot id first second) = Byte 2 ∷ Word slot ∷ task_fields id ++ Word first ∷ Word second ∷ []
+fields (msg.Request slot id operation x y z) = request_fields slot id operation x y z
+fields (msg.Reply slot id first second) = reply_fields slot id first second
 fields (msg.Spawn unit) = with_unit 3 unit
 fields (msg.Enrol scope) = with_scope 4 scope
 fields (msg.EnrolAck scope) = with_scope 5 scope
-fields (msg.Complete scope count) = with_scope 6 scope ++ Word count ∷ []
+fields (msg.Complete scope count) = complete_fields scope count
 fields (msg.Leave scope) = with_scope 7 scope
 fields msg.StealAsk = Byte 8 ∷ []
 fields (msg.StealGive unit) = with_unit 9 unit
 fields (msg.Batch object key effect batch) = batch_fields object key effect batch
 fields (msg.BatchReply batch before) = Byte 12 ∷ Word batch ∷ option_fields before
 fields (msg.Turn vector) = Byte 13 ∷ Byte vector ∷ []
-fields (msg.Grant vector head tail) = Byte 14 ∷ Byte vector ∷ Word head ∷ Word tail ∷ []
-fields (msg.Done vector head tail) = Byte 18 ∷ Byte vector ∷ Word head ∷ Word tail ∷ []
-fields (msg.ElemPut vector position word) = Byte 15 ∷ Byte vector ∷ Word position ∷ Word word ∷ []
-fields (msg.ElemGet vector position) = Byte 16 ∷ Byte vector ∷ Word position ∷ []
-fields (msg.ElemAck vector position got) = Byte 17 ∷ Byte vector ∷ Word position ∷ option_fields got
+fields (msg.Grant vector head tail) = pair_fields 14 vector head tail
+fields (msg.Done vector head tail) = pair_fields 18 vector head tail
+fields (msg.ElemPut vector position word) = pair_fields 15 vector position word
+fields (msg.ElemGet vector position) = position_fields vector position
+fields (msg.ElemAck vector position got) = answer_fields vector position got
 
 abbrev pub packet_fields : Opened → List Field
 packet_fields packet = Word packet.clock ∷ Pair (length packet.messages) ∷ flat_map fields packet.messages

@@ -175,6 +175,107 @@ fn put_with_scope(out: &mut Vec<u8>, kind: u64, scope: ScopeId) -> Result<(), Al
     )
 }
 
+/// A message of this kind with a vector and two words.
+fn put_pair(
+    out: &mut Vec<u8>,
+    kind: u64,
+    vector: u64,
+    first: u64,
+    second: u64,
+) -> Result<(), AllocError>
+    ensures { OnOk result (out.new.items
+        ≡ out.old.items ++ spelled (spec.pair_fields kind vector first second)) }
+{
+    put(
+        out,
+        &[
+            Field::Byte(kind),
+            Field::Byte(vector),
+            Field::Word(first),
+            Field::Word(second),
+        ],
+    )
+}
+
+/// A request, with its three words.
+fn put_request(
+    out: &mut Vec<u8>,
+    slot: u64,
+    id: TaskId,
+    operation: u64,
+    x: u64,
+    y: u64,
+    z: u64,
+) -> Result<(), AllocError>
+    ensures { OnOk result (out.new.items
+        ≡ out.old.items ++ spelled (spec.request_fields slot id operation x y z)) }
+{
+    put(
+        out,
+        &[
+            Field::Byte(1),
+            Field::Word(slot),
+            Field::Byte(id.core),
+            Field::Word(id.number),
+            Field::Byte(operation),
+            Field::Word(x),
+            Field::Word(y),
+            Field::Word(z),
+        ],
+    )
+}
+
+/// A reply.
+fn put_reply(
+    out: &mut Vec<u8>,
+    slot: u64,
+    id: TaskId,
+    first: u64,
+    second: u64,
+) -> Result<(), AllocError>
+    ensures { OnOk result (out.new.items
+        ≡ out.old.items ++ spelled (spec.reply_fields slot id first second)) }
+{
+    put(
+        out,
+        &[
+            Field::Byte(2),
+            Field::Word(slot),
+            Field::Byte(id.core),
+            Field::Word(id.number),
+            Field::Word(first),
+            Field::Word(second),
+        ],
+    )
+}
+
+/// A message of ended tasks.
+fn put_complete(out: &mut Vec<u8>, scope: ScopeId, count: u64) -> Result<(), AllocError>
+    ensures { OnOk result (out.new.items
+        ≡ out.old.items ++ spelled (spec.complete_fields scope count)) }
+{
+    put(
+        out,
+        &[
+            Field::Byte(6),
+            Field::Byte(scope.core),
+            Field::Word(scope.number),
+            Field::Word(count),
+        ],
+    )
+}
+
+/// A question for the word at a position of a vector.
+fn put_position(out: &mut Vec<u8>, vector: u64, position: u64) -> Result<(), AllocError>
+    ensures { OnOk result (out.new.items
+        ≡ out.old.items ++ spelled (spec.position_fields vector position)) }
+{
+    put(
+        out,
+        &[Field::Byte(16), Field::Byte(vector), Field::Word(position)],
+    )
+}
+
 /// Numbers, and an option behind them.
 fn put_found(out: &mut Vec<u8>, fields: &[Field], found: Option<u64>) -> Result<(), AllocError>
     ensures { OnOk result (out.new.items
@@ -182,6 +283,23 @@ fn put_found(out: &mut Vec<u8>, fields: &[Field], found: Option<u64>) -> Result<
 {
     put(out, fields)?;
     put(out, &option_fields(found))
+}
+
+/// The answer of a position of a vector.
+fn put_answer(
+    out: &mut Vec<u8>,
+    vector: u64,
+    position: u64,
+    got: Option<u64>,
+) -> Result<(), AllocError>
+    ensures { OnOk result (out.new.items
+        ≡ out.old.items ++ spelled (spec.answer_fields vector position got)) }
+{
+    put_found(
+        out,
+        &[Field::Byte(17), Field::Byte(vector), Field::Word(position)],
+        got,
+    )
 }
 
 /// A batch.
@@ -215,47 +333,17 @@ fn put_message(out: &mut Vec<u8>, message: &Msg) -> Result<(), AllocError>
             x,
             y,
             z,
-        } => put(
-            out,
-            &[
-                Field::Byte(1),
-                Field::Word(*slot),
-                Field::Byte(id.core),
-                Field::Word(id.number),
-                Field::Byte(*operation),
-                Field::Word(*x),
-                Field::Word(*y),
-                Field::Word(*z),
-            ],
-        ),
+        } => put_request(out, *slot, *id, *operation, *x, *y, *z),
         Msg::Reply {
             slot,
             id,
             first,
             second,
-        } => put(
-            out,
-            &[
-                Field::Byte(2),
-                Field::Word(*slot),
-                Field::Byte(id.core),
-                Field::Word(id.number),
-                Field::Word(*first),
-                Field::Word(*second),
-            ],
-        ),
+        } => put_reply(out, *slot, *id, *first, *second),
         Msg::Spawn { unit } => put_with_unit(out, 3, unit),
         Msg::Enrol { scope } => put_with_scope(out, 4, *scope),
         Msg::EnrolAck { scope } => put_with_scope(out, 5, *scope),
-        Msg::Complete { scope, count } => put(
-            out,
-            &[
-                Field::Byte(6),
-                Field::Byte(scope.core),
-                Field::Word(scope.number),
-                Field::Word(*count),
-            ],
-        ),
+        Msg::Complete { scope, count } => put_complete(out, *scope, *count),
         Msg::Leave { scope } => put_with_scope(out, 7, *scope),
         Msg::StealAsk => put(out, &[Field::Byte(8)]),
         Msg::StealGive { unit } => put_with_unit(out, 9, unit),
@@ -265,64 +353,23 @@ fn put_message(out: &mut Vec<u8>, message: &Msg) -> Result<(), AllocError>
             effect,
             batch,
         } => put_batch(out, *object, *key, *effect, *batch),
-        Msg::BatchReply { batch, before } => put_found(
-            out,
-            &[Field::Byte(12), Field::Word(*batch)],
-            *before,
-        ),
+        Msg::BatchReply { batch, before } => {
+            put_found(out, &[Field::Byte(12), Field::Word(*batch)], *before)
+        }
         Msg::Turn { vector } => put(out, &[Field::Byte(13), Field::Byte(*vector)]),
-        Msg::Grant { vector, head, tail } => put(
-            out,
-            &[
-                Field::Byte(14),
-                Field::Byte(*vector),
-                Field::Word(*head),
-                Field::Word(*tail),
-            ],
-        ),
-        Msg::Done { vector, head, tail } => put(
-            out,
-            &[
-                Field::Byte(18),
-                Field::Byte(*vector),
-                Field::Word(*head),
-                Field::Word(*tail),
-            ],
-        ),
+        Msg::Grant { vector, head, tail } => put_pair(out, 14, *vector, *head, *tail),
+        Msg::Done { vector, head, tail } => put_pair(out, 18, *vector, *head, *tail),
         Msg::ElemPut {
             vector,
             position,
             word,
-        } => put(
-            out,
-            &[
-                Field::Byte(15),
-                Field::Byte(*vector),
-                Field::Word(*position),
-                Field::Word(*word),
-            ],
-        ),
-        Msg::ElemGet { vector, position } => put(
-            out,
-            &[
-                Field::Byte(16),
-                Field::Byte(*vector),
-                Field::Word(*position),
-            ],
-        ),
+        } => put_pair(out, 15, *vector, *position, *word),
+        Msg::ElemGet { vector, position } => put_position(out, *vector, *position),
         Msg::ElemAck {
             vector,
             position,
             got,
-        } => put_found(
-            out,
-            &[
-                Field::Byte(17),
-                Field::Byte(*vector),
-                Field::Word(*position),
-            ],
-            *got,
-        ),
+        } => put_answer(out, *vector, *position, *got),
     }
 }
 
