@@ -1,14 +1,13 @@
-use Rattle.std.proofs.Common.{◌≡◌, ◌<◌, ◌++◌, List, ap, ◌∙◌, sym, refl, subst, arith, length, Option, Some, None, slice_set}
+use Rattle.std.proofs.Common.{◌≡◌, ◌++◌, List, ap, ◌∙◌, sym, refl, subst, arith, length, Option, Some, None, slice_set}
 use Rattle.std.specs.Option.{option_copied_mut}
 use mathlib.Core.List.{IsPrefix}
 use Rattle.rtrb.specs.Ring.{IsPair, known_items, producer_capacity}
 use Rattle.gr_msg.specs.declared.packet.Packet.{Packet}
 use Rattle.gr_view.specs.Places.{at_place}
-use Rattle.gr_view.proofs.Puts.{place_read}
 use Rattle.gr_mail.specs.declared.mail.TheConstants.{RING_PACKETS}
 use Rattle.gr_mail.specs.Ends.{AreBoth, ReceivingEnd, SendingEnd, free_on, known_on, received_on, sent_on}
 use Rattle.gr_mail.specs.Rings.{free_to, known_from}
-use Rattle.gr_mail.proofs.Ends.{all_same_consumers, all_same_producers, end_same, ends_stay, is_there, ins_same, outs_same, prefix_self, put_self, room_stays, seen_others, seen_same}
+use Rattle.gr_mail.proofs.Ends.{all_same_consumers, all_same_producers, ends_stay, ins_same, is_read, is_there, outs_same, prefix_self, put_self, room_stays, seen_at, seen_now, seen_others, seen_same}
 use Rattle.gr_mail.proofs.meeting.meet_ring.Goals as goal
 
 pub unreachable-requires : goal.unreachable-requires
@@ -25,18 +24,10 @@ unreachable-requires-in-None-as_mut c =
 
 pub look-requires : goal.look-requires
 look-requires c =
-    let one = c.args.one.now in
-    let other = c.args.other.now in
-    let to = other.owner in
-    let within : to < length one.outs.items = omega arith in
-    let there : at_place None one.outs.items to ≡ Some c.in-Some.producer.now =
-    place_read None c.index_mut.result.now one.outs.items to within c.index_mut.ensures.value ∙ (sym c.as_mut.ensures.value ∙ ap option_copied_mut c.in-Some.is) in
-    let from = one.owner in
-    let inside : from < length other.ins.items = omega arith in
-    let here : at_place None other.ins.items from ≡ Some c.in-Some-as_mut.consumer.now =
-    place_read None c.index_mut-in-Some.result.now other.ins.items from inside c.index_mut-in-Some.ensures.value ∙ (sym c.as_mut-in-Some.ensures.value ∙ ap option_copied_mut c.in-Some-as_mut.is) in
-    subst (λ (y : Option ReceivingEnd). AreBoth IsPair (Some c.in-Some.producer.now) y) here
-    (subst (λ (x : Option SendingEnd). AreBoth IsPair x (at_place None other.ins.items from)) there c.requires.ring)
+    let out = is_read c.args.one.now.outs.items c.args.other.now.owner c.index_mut.result.now c.as_mut.result c.in-Some.producer (omega arith) c.index_mut.ensures.value c.as_mut.ensures.value c.in-Some.is in
+    let into = is_read c.args.other.now.ins.items c.args.one.now.owner c.index_mut-in-Some.result.now c.as_mut-in-Some.result c.in-Some-as_mut.consumer (omega arith) c.index_mut-in-Some.ensures.value c.as_mut-in-Some.ensures.value c.in-Some-as_mut.is in
+    subst (λ (y : Option ReceivingEnd). AreBoth IsPair (Some c.in-Some.producer.now) y) into.is
+    (subst (λ (x : Option SendingEnd). AreBoth IsPair x (at_place None c.args.other.now.ins.items c.args.one.now.owner)) out.is c.requires.ring)
 
 pub invariant_of-one-clause-sends : goal.invariant_of-one-clause-sends
 invariant_of-one-clause-sends c =
@@ -45,13 +36,8 @@ invariant_of-one-clause-sends c =
 
 pub invariant_of-one-clause-rooms : goal.invariant_of-one-clause-rooms
 invariant_of-one-clause-rooms c =
-    let one = c.args.one.now in
-    let other = c.args.other.now in
-    let to = other.owner in
-    let within : to < length one.outs.items = omega arith in
-    let there : at_place None one.outs.items to ≡ Some c.in-Some.producer.now =
-    place_read None c.index_mut.result.now one.outs.items to within c.index_mut.ensures.value ∙ (sym c.as_mut.ensures.value ∙ ap option_copied_mut c.in-Some.is) in
-    room_stays one.outs.items to c.in-Some.producer.now c.look.new.producer within there (c.look.ensures.producer.0) one.rooms
+    let out = is_read c.args.one.now.outs.items c.args.other.now.owner c.index_mut.result.now c.as_mut.result c.in-Some.producer (omega arith) c.index_mut.ensures.value c.as_mut.ensures.value c.in-Some.is in
+    room_stays c.args.one.now.outs.items c.args.other.now.owner c.in-Some.producer.now c.look.new.producer out (c.look.ensures.producer.0) c.args.one.now.rooms
 
 pub invariant_of-other-clause-receives : goal.invariant_of-other-clause-receives
 invariant_of-other-clause-receives c =
@@ -60,62 +46,40 @@ invariant_of-other-clause-receives c =
 
 pub returns-clause-one : goal.returns-clause-one
 returns-clause-one c =
-    let one = c.args.one.now in
-    let other = c.args.other.now in
-    let to = other.owner in
-    let within : to < length one.outs.items = omega arith in
-    let there : at_place None one.outs.items to ≡ Some c.in-Some.producer.now =
-    place_read None c.index_mut.result.now one.outs.items to within c.index_mut.ensures.value ∙ (sym c.as_mut.ensures.value ∙ ap option_copied_mut c.in-Some.is) in
-    let now = end_same one.outs.items to (Some c.look.new.producer) within in
+    let out = is_read c.args.one.now.outs.items c.args.other.now.owner c.index_mut.result.now c.as_mut.result c.in-Some.producer (omega arith) c.index_mut.ensures.value c.as_mut.ensures.value c.in-Some.is in
     record {
-      rings = record { owner = refl; cores = refl; outs = outs_same one.outs.items to c.in-Some.producer.now c.look.new.producer within there (c.look.ensures.producer.0); ins = all_same_consumers one.ins.items };
-      sent = seen_same sent_on one.outs.items to (Some c.look.new.producer) within (c.look.ensures.producer.1 ∙ ap sent_on (sym there));
+      rings = record { owner = refl; cores = refl; outs = outs_same c.args.one.now.outs.items c.args.other.now.owner c.in-Some.producer.now c.look.new.producer out (c.look.ensures.producer.0); ins = all_same_consumers c.args.one.now.ins.items };
+      sent = seen_same sent_on c.args.one.now.outs.items c.args.other.now.owner c.in-Some.producer.now c.look.new.producer out (c.look.ensures.producer.1);
       received = refl;
-      free = seen_others free_on one.outs.items to (Some c.look.new.producer) within;
-      known = put_self (known_from one) to;
-      no_fewer = omega (arith, ap free_on there, ap free_on now, c.look.ensures.producer.2);
-      still = prefix_self (known_from one to);
+      free = seen_others free_on c.args.one.now.outs.items c.args.other.now.owner (Some c.look.new.producer) out.within;
+      known = put_self (known_from c.args.one.now) c.args.other.now.owner;
+      no_fewer = omega (arith, seen_at free_on c.args.one.now.outs.items c.args.other.now.owner c.in-Some.producer.now out, seen_now free_on c.args.one.now.outs.items c.args.other.now.owner c.in-Some.producer.now c.look.new.producer out, c.look.ensures.producer.2);
+      still = prefix_self (known_from c.args.one.now c.args.other.now.owner);
     }
 
 pub returns-clause-other : goal.returns-clause-other
 returns-clause-other c =
-    let one = c.args.one.now in
-    let other = c.args.other.now in
-    let from = one.owner in
-    let inside : from < length other.ins.items = omega arith in
-    let here : at_place None other.ins.items from ≡ Some c.in-Some-as_mut.consumer.now =
-    place_read None c.index_mut-in-Some.result.now other.ins.items from inside c.index_mut-in-Some.ensures.value ∙ (sym c.as_mut-in-Some.ensures.value ∙ ap option_copied_mut c.in-Some-as_mut.is) in
-    let now = end_same other.ins.items from (Some c.look.new.consumer) inside in
+    let into = is_read c.args.other.now.ins.items c.args.one.now.owner c.index_mut-in-Some.result.now c.as_mut-in-Some.result c.in-Some-as_mut.consumer (omega arith) c.index_mut-in-Some.ensures.value c.as_mut-in-Some.ensures.value c.in-Some-as_mut.is in
     record {
-      rings = record { owner = refl; cores = refl; outs = all_same_producers other.outs.items; ins = ins_same other.ins.items from c.in-Some-as_mut.consumer.now c.look.new.consumer inside here (c.look.ensures.consumer.0) };
+      rings = record { owner = refl; cores = refl; outs = all_same_producers c.args.other.now.outs.items; ins = ins_same c.args.other.now.ins.items c.args.one.now.owner c.in-Some-as_mut.consumer.now c.look.new.consumer into (c.look.ensures.consumer.0) };
       sent = refl;
-      received = seen_same received_on other.ins.items from (Some c.look.new.consumer) inside (c.look.ensures.consumer.1 ∙ ap received_on (sym here));
-      free = put_self (free_to other) from;
-      known = seen_others known_on other.ins.items from (Some c.look.new.consumer) inside;
+      received = seen_same received_on c.args.other.now.ins.items c.args.one.now.owner c.in-Some-as_mut.consumer.now c.look.new.consumer into (c.look.ensures.consumer.1);
+      free = put_self (free_to c.args.other.now) c.args.one.now.owner;
+      known = seen_others known_on c.args.other.now.ins.items c.args.one.now.owner (Some c.look.new.consumer) into.within;
       no_fewer = omega arith;
-      still = subst (λ (ks : List Packet). IsPrefix ks (known_on (at_place None (slice_set other.ins.items from (Some c.look.new.consumer)) from))) (ap known_on (sym here))
-          (subst (λ (ks : List Packet). IsPrefix (known_items c.in-Some-as_mut.consumer.now) ks) (ap known_on (sym now)) (c.look.ensures.consumer.2));
+      still = subst (λ (ks : List Packet). IsPrefix ks (known_on (at_place None (slice_set c.args.other.now.ins.items c.args.one.now.owner (Some c.look.new.consumer)) c.args.one.now.owner)))
+          (sym (seen_at known_on c.args.other.now.ins.items c.args.one.now.owner c.in-Some-as_mut.consumer.now into))
+          (subst (λ (ks : List Packet). IsPrefix (known_items c.in-Some-as_mut.consumer.now) ks) (sym (seen_now known_on c.args.other.now.ins.items c.args.one.now.owner c.in-Some-as_mut.consumer.now c.look.new.consumer into)) (c.look.ensures.consumer.2));
     }
 
 pub returns-clause-met : goal.returns-clause-met
 returns-clause-met c =
-    let one = c.args.one.now in
-    let other = c.args.other.now in
-    let to = other.owner in
-    let within : to < length one.outs.items = omega arith in
-    let there : at_place None one.outs.items to ≡ Some c.in-Some.producer.now =
-    place_read None c.index_mut.result.now one.outs.items to within c.index_mut.ensures.value ∙ (sym c.as_mut.ensures.value ∙ ap option_copied_mut c.in-Some.is) in
-    let from = one.owner in
-    let inside : from < length other.ins.items = omega arith in
-    let here : at_place None other.ins.items from ≡ Some c.in-Some-as_mut.consumer.now =
-    place_read None c.index_mut-in-Some.result.now other.ins.items from inside c.index_mut-in-Some.ensures.value ∙ (sym c.as_mut-in-Some.ensures.value ∙ ap option_copied_mut c.in-Some-as_mut.is) in
-    let out = end_same one.outs.items to (Some c.look.new.producer) within in
-    let into = end_same other.ins.items from (Some c.look.new.consumer) inside in
-    let room : producer_capacity c.in-Some.producer.now ≡ RING_PACKETS = one.rooms to c.in-Some.producer.now there in
-    let known : known_on (at_place None (slice_set other.ins.items from (Some c.look.new.consumer)) from) ≡ known_items c.look.new.consumer = ap known_on into in
+    let out = is_read c.args.one.now.outs.items c.args.other.now.owner c.index_mut.result.now c.as_mut.result c.in-Some.producer (omega arith) c.index_mut.ensures.value c.as_mut.ensures.value c.in-Some.is in
+    let into = is_read c.args.other.now.ins.items c.args.one.now.owner c.index_mut-in-Some.result.now c.as_mut-in-Some.result c.in-Some-as_mut.consumer (omega arith) c.index_mut-in-Some.ensures.value c.as_mut-in-Some.ensures.value c.in-Some-as_mut.is in
+    let room : producer_capacity c.in-Some.producer.now ≡ RING_PACKETS = c.args.one.now.rooms c.args.other.now.owner c.in-Some.producer.now out.is in
     record {
-      known = ap (λ (end : Option ReceivingEnd). received_on end ++ known_on end) into ∙ c.look.ensures.known ∙ sym (ap sent_on out);
-      free = omega (arith, room, ap free_on out, ap length known, c.look.ensures.free);
+      known = seen_now (λ (end : Option ReceivingEnd). received_on end ++ known_on end) c.args.other.now.ins.items c.args.one.now.owner c.in-Some-as_mut.consumer.now c.look.new.consumer into ∙ c.look.ensures.known ∙ sym (seen_now sent_on c.args.one.now.outs.items c.args.other.now.owner c.in-Some.producer.now c.look.new.producer out);
+      free = omega (arith, room, seen_now free_on c.args.one.now.outs.items c.args.other.now.owner c.in-Some.producer.now c.look.new.producer out, ap length (seen_now known_on c.args.other.now.ins.items c.args.one.now.owner c.in-Some-as_mut.consumer.now c.look.new.consumer into), c.look.ensures.free);
     }
 
 pub returns-clause-received : goal.returns-clause-received
