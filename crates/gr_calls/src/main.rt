@@ -9,6 +9,7 @@ mod alloc_rows;
 mod call;
 mod cli_rows;
 mod memory_rows;
+mod packet_rows;
 mod text_rows;
 
 use serde_json::Value;
@@ -22,6 +23,7 @@ fn answers(alloc: Global, row: &Value) -> Result<Option<Vec<String>>, AllocError
         Some("memory") => memory_rows::memory(alloc, row),
         Some("keys") => memory_rows::keys(alloc, row),
         Some("options") => cli_rows::options(alloc, row),
+        Some("packets") => packet_rows::packets(alloc, row),
         Some("tokens") => text_rows::tokens(alloc, row),
         Some("places") => text_rows::places(alloc, row),
         _ => Ok(None),
