@@ -10,6 +10,7 @@ mod call;
 mod check_rows;
 mod cli_rows;
 mod memory_rows;
+mod packet_rows;
 mod text_rows;
 
 use serde_json::Value;
@@ -24,6 +25,7 @@ fn answers(alloc: Global, row: &Value) -> Result<Option<Vec<String>>, AllocError
         Some("keys") => memory_rows::keys(alloc, row),
         Some("checks") => check_rows::checks(alloc, row),
         Some("options") => cli_rows::options(alloc, row),
+        Some("packets") => packet_rows::packets(alloc, row),
         Some("tokens") => text_rows::tokens(alloc, row),
         Some("places") => text_rows::places(alloc, row),
         _ => Ok(None),
