@@ -30,7 +30,12 @@ fn woken(alloc: Global, batch: &Batch, reducers: &Reducers) -> Result<Wakes, All
 }
 
 /// So many calls, on keys in turn, are joined, closed into batches, and answered.
-pub fn calls(alloc: Global, count: u64, keys: u64, reducers: &Reducers) -> Result<String, AllocError> {
+pub fn calls(
+    alloc: Global,
+    count: u64,
+    keys: u64,
+    reducers: &Reducers,
+) -> Result<String, AllocError> {
     let mut combiner = Combiner::new(alloc);
     for at in 0..count {
         let key = at % keys.max(1);
@@ -52,7 +57,12 @@ pub fn calls(alloc: Global, count: u64, keys: u64, reducers: &Reducers) -> Resul
 }
 
 /// So many effects on keys in turn are applied to a shard of a map and to one of a set.
-pub fn keys(alloc: Global, count: u64, keys: u64, reducers: &Reducers) -> Result<String, AllocError> {
+pub fn keys(
+    alloc: Global,
+    count: u64,
+    keys: u64,
+    reducers: &Reducers,
+) -> Result<String, AllocError> {
     let mut map = MapShard::new(alloc);
     let mut set = SetShard::new(alloc);
     let mut held = 0u64;
@@ -65,7 +75,10 @@ pub fn keys(alloc: Global, count: u64, keys: u64, reducers: &Reducers) -> Result
         if map.apply(key, fold, reducers)?.is_some() {
             held = held.wrapping_add(1);
         }
-        if set.apply(key, Effect::Present { word: 0 }, reducers)?.is_some() {
+        if set
+            .apply(key, Effect::Present { word: 0 }, reducers)?
+            .is_some()
+        {
             held = held.wrapping_add(1);
         }
     }

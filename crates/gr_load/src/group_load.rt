@@ -10,7 +10,10 @@ fn waiting(slot: u64, op: Op) -> WaitingCall
 {
     WaitingCall {
         slot,
-        id: TaskId { core: 0, number: slot },
+        id: TaskId {
+            core: 0,
+            number: slot,
+        },
         op,
     }
 }
