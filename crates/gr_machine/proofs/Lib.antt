@@ -5,4 +5,6 @@ mod ProgramRows
 pub mod ActionFacts
 pub mod ServeFacts
 mod Runs
+pub mod Clocks
+mod Merging
 pub mod Nets

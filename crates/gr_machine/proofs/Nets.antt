@@ -1,66 +1,38 @@
 -- The machine without its clocks is a net of messages between cores.
-use Rattle.std.proofs.Common.{◌≡◌, ◌+◌, ◌==◌, ◌&&◌, ◌^◌, ℕ, true, false, if◌then◌else◌, List, [], ◌∷◌, ◌++◌, ap, ◌∙◌, sym, refl, subst, arith}
-use Rattle.std.specs.Prelude.{Bool, Option, Some, None, nat_lt, drop}
+use Rattle.std.proofs.Common.{◌≡◌, ◌+◌, ◌==◌, ℕ, max, true, false, if◌then◌else◌, List, [], ◌∷◌, ◌++◌, ap, ◌∙◌, sym, refl, subst, arith, sum_by}
+use Rattle.std.specs.Prelude.{Bool, Option, Some, None, take}
+use Rattle.std.specs.Option.{option_map}
+use Rattle.std.proofs.lemmas.List.Sums.{sum_by-cons}
 use Rattle.gr_view.specs.Places.{put}
-use Rattle.gr_msg.specs.Scopes.{same_scope}
-use Rattle.gr_msg.specs.declared.message.ScopeId.{ScopeId}
 use Rattle.gr_msg.specs.declared.message.Msg.{Msg}
-use Rattle.gr_msg.specs.declared.message.Msg.TheVariants as msg
+use Rattle.gr_agg.specs.Buffers.{add_last}
+use Rattle.gr_agg.proofs.Weights.{weigh_added}
+use Rattle.gr_merge.specs.Machines.{quiet, shipping, with_first}
+use Rattle.gr_merge.specs.GlobalRuns.{put_pair, world_with}
 use Rattle.gr_net.specs.Messages.{Letter}
 use Rattle.gr_net.specs.Sums.{weigh}
 use Rattle.gr_net.specs.Worlds as net
 use Rattle.gr_net.proofs.Views.{put_seen}
+use Rattle.gr_machine.specs.declared.event.Event.TheVariants as event
+use Rattle.gr_machine.specs.declared.journal.Stamped.{Stamped}
+use Rattle.gr_machine.specs.Machines.{Machine}
 use Rattle.gr_machine.specs.States.{Body, Core}
-use Rattle.gr_machine.specs.Buffers.{completion, summed, put_sum, joined_counts, add_last}
 use Rattle.gr_machine.specs.Outcomes.{Send, sent, sent_all}
-use Rattle.gr_machine.specs.Events.{Packet, letters_from, packet_to, ticked, shipped, received}
+use Rattle.gr_machine.specs.Events.{Packet, Transition, letters_from, packet_to, ticked, received, begun, came_of, happens, slot_of, are_free, steps_to}
+use Rattle.gr_machine.specs.Steppers.{CountedCore, Went, went_on, entry_step}
+use Rattle.gr_machine.specs.GlobalRuns.{World}
 use Rattle.gr_machine.specs.Nets as nets
-use Rattle.gr_machine.specs.Nets.{core_in, world_in, messages_in, AddsCounts}
+use Rattle.gr_machine.specs.Nets.{core_in, world_in, messages_in}
+use Rattle.gr_machine.proofs.Clocks.{some_same, some_then, entry_made}
 
 -- Counts
 
-completion_of : (message : Msg) (p : ScopeId × ℕ) → completion message ≡ Some p → message ≡ msg.Complete p.0 p.1
-completion_of (msg.Complete scope count) p e = let w : (scope, count) ≡ p = cc in ap (λ (q : ScopeId × ℕ). msg.Complete q.0 q.1) w
-completion_of _ p e = absurd (cc)
-
-both_true : (a b : Bool) → (a && b) ≡ true → (a ≡ true) × (b ≡ true)
-both_true true b h = (refl, h)
-both_true false b h = absurd (cc)
-
-scope_told : (one other : ScopeId) → same_scope one other ≡ true → one ≡ other
-scope_told one other h = let z = both_true (one.core == other.core) (one.number == other.number) h in
-    λ i. record { core = (let e : one.core ≡ other.core = grind (arith, z.0) in e) i; number = (let e : one.number ≡ other.number = grind (arith, z.1) in e) i }
-
-some_if : (a b : Bool) (n v : ℕ) → (if a then (if b then Some n else None) else None) ≡ Some v → (a ≡ true) × (n ≡ v)
-some_if true true n v h = (refl, cc)
-some_if true false n v h = absurd (cc)
-some_if false b n v h = absurd (cc)
-
-two : (weight : Msg → ℕ) (x y : Msg) → weigh weight (x ∷ y ∷ []) ≡ weight x + weight y
-two weight x y = omega arith
-
-sum : (weight : Msg → ℕ) → AddsCounts weight → (s t : ScopeId) (n k : ℕ) (o : Option ℕ) → summed s n t k ≡ o
-    → weigh weight (put_sum (msg.Complete s n) (msg.Complete t k) s o) ≡ weight (msg.Complete s n) + weight (msg.Complete t k)
-sum weight a s t n k None e = two weight (msg.Complete s n) (msg.Complete t k)
-sum weight a s t n k (Some v) e =
-    let z = some_if (same_scope s t) (nat_lt (n + k) (2 ^ 64)) (n + k) v e in
-    let w = scope_told s t z.0 in
-    let u : weight (msg.Complete s v) ≡ weight (msg.Complete s n) + weight (msg.Complete t k) = ap (λ j. weight (msg.Complete s j)) (sym z.1) ∙ a s n k ∙ ap (λ r. weight (msg.Complete s n) + weight (msg.Complete r k)) w in
-    omega (arith, u)
-
-joined_up : (weight : Msg → ℕ) → AddsCounts weight → (x y : Msg) (o p : Option (ScopeId × ℕ)) → completion x ≡ o → completion y ≡ p → weigh weight (joined_counts x y o p) ≡ weight x + weight y
-joined_up weight a x y None p e f = two weight x y
-joined_up weight a x y (Some c) None e f = two weight x y
-joined_up weight a x y (Some c) (Some d) e f =
-    subst (λ u. weigh weight (joined_counts u y (Some c) (Some d)) ≡ weight u + weight y) (sym (completion_of x c e))
-    (subst (λ u. weigh weight (joined_counts (msg.Complete c.0 c.1) u (Some c) (Some d)) ≡ weight (msg.Complete c.0 c.1) + weight u) (sym (completion_of y d f))
-    (sum weight a c.0 d.0 c.1 d.1 (summed c.0 c.1 d.0 d.1) refl))
+weighed : (weight : Msg → ℕ) (messages : List Msg) → weigh weight messages ≡ sum_by weight messages
+weighed weight [] = refl
+weighed weight (message ∷ messages) = omega (arith, weighed weight messages, sum_by-cons weight message messages)
 
 pub adds_up : nets.BuffersAddUp
-unfolding add_last
-adds_up weight a [] y = omega arith
-adds_up weight a (x ∷ []) y = joined_up weight a x y (completion x) (completion y) refl refl ∙ omega arith
-adds_up weight a (x ∷ z ∷ xs) y = omega (arith, adds_up weight a (z ∷ xs) y)
+adds_up weight adds messages message = omega (arith, weigh_added weight adds messages message, weighed weight (add_last messages message), weighed weight messages)
 
 -- Outcomes
 
@@ -81,25 +53,99 @@ outcomes_are me core outcome = all_sent_are me (record core { body = outcome.bod
 
 -- Ships and Takes
 
+-- A core of the world with another one in its place.
+put_core : (world : World) (me : ℕ) (counted : CountedCore) → (λ other. core_in (put world.states me counted other).core) ≡ put (λ other. core_in (world.states other).core) me (core_in counted.core)
+put_core world me counted = put_seen (λ (one : CountedCore). core_in one.core) world.states me counted
+
 abbrev net_of : (ℕ → net.Core Body Msg) → (ℕ → ℕ → List Packet) → net.World Body Msg Packet
 net_of cores transit = record { cores = cores; transit = transit }
 
-packet_is : {one other : Packet} → Some one ≡ Some other → one ≡ other
-packet_is e = cc
+abbrev ships_to : World → ℕ → ℕ → Option Went → Option World
+ships_to world me dest went = option_map (λ (sent : Went × Packet). world_with world me (put_pair world.transit me dest (world.transit me dest ++ sent.1 ∷ [])) sent.0) (shipping went)
 
 pub ships_are : nets.ShipsAreTheNets
-ships_are machine world me dest slot packet e =
-    let core : Core = ticked (world.cores me) (world.cores me).clock in
-    ap (λ cores. net_of cores (put world.transit me (put (world.transit me) dest (world.transit me dest ++ packet_to machine core dest ∷ [])))) (put_seen core_in world.cores me (shipped machine core dest))
-    ∙ ap (λ (p : Packet). net.shipped machine.setup.limit p (world_in world) me dest) (packet_is e)
+ships_are machine world next me dest clock slots h = of_step (entry_step machine me (world.states me) entry None) refl h
+  where
+    entry : Stamped
+    entry = record { clock = clock; event = event.Ship dest; slots = slots }
+
+    core : Core
+    core = (world.states me).core
+
+    made : Transition
+    made = happens machine me (ticked core core.clock) (slot_of slots) (event.Ship dest)
+
+    messages : List Msg
+    messages = take machine.setup.limit (core.buffers dest)
+
+    Same : Type 0
+    Same = world_in next ≡ net.shipped machine.setup.limit (record { clock = clock; messages = messages }) (world_in world) me dest
+
+    of_made : core.clock + 1 ≡ clock → ships_to world me dest (Some (went_on machine (world.states me) (event.Ship dest) made)) ≡ Some next → Same
+    of_made e k =
+        ap world_in (sym (some_same k))
+        ∙ ap (λ cores. net_of cores (put_pair world.transit me dest (world.transit me dest ++ packet_to machine (ticked core core.clock) dest ∷ [])))
+        (put_core world me (went_on machine (world.states me) (event.Ship dest) made).state)
+        ∙ ap (λ time. net.shipped machine.setup.limit (record { clock = time; messages = messages }) (world_in world) me dest) e
+
+    of_step : (went : Option Went) → entry_step machine me (world.states me) entry None ≡ went → ships_to world me dest went ≡ Some next → Same
+    of_step None e k = absurd (cc)
+    of_step (Some went) e k =
+        let c = entry_made machine me (world.states me) entry None went e in
+        let is_made : made ≡ c.after = some_same (some_then (are_free core.body 0 slots) (Some made) c.after c.steps) in
+        of_made (ap (λ (after : Transition). after.core.clock) is_made ∙ c.clock)
+        (subst (λ (after : Transition). ships_to world me dest (Some (went_on machine (world.states me) (event.Ship dest) after)) ≡ Some next) (sym is_made)
+        (subst (λ (one : Went). ships_to world me dest (Some one) ≡ Some next) (sym c.same) k))
 
 letters_are : (from : ℕ) (messages : List Msg) → letters_from from messages ≡ net.letters from messages
 letters_are from [] = refl
 letters_are from (message ∷ messages) = ap (λ (rest : List (Letter Msg)). record { from = from; message = message } ∷ rest) (letters_are from messages)
 
+abbrev takes_to : World → ℕ → ℕ → List Packet → Option Went → Option World
+takes_to world me from packets went = option_map (world_with world me (put_pair world.transit from me packets)) (quiet went)
+
+-- A packet that is taken, the first.
+take_is : (machine : Machine) (world next : World) (me from clock : ℕ) (slots : List ℕ) (packet : Packet) (packets : List Packet)
+    → takes_to world me from packets (entry_step machine me (world.states me) (record { clock = clock; event = event.Take from; slots = slots }) (Some packet)) ≡ Some next
+    → world_in next ≡ net.taken messages_in (world_in world) me from (packet ∷ packets)
+take_is machine world next me from clock slots packet packets h = of_step (entry_step machine me (world.states me) entry (Some packet)) refl h
+  where
+    entry : Stamped
+    entry = record { clock = clock; event = event.Take from; slots = slots }
+
+    core : Core
+    core = (world.states me).core
+
+    made : Transition
+    made = came_of (begun (received (ticked core (max core.clock packet.clock)) from packet.messages))
+
+    Same : Type 0
+    Same = world_in next ≡ net.taken messages_in (world_in world) me from (packet ∷ packets)
+
+    of_made : takes_to world me from packets (Some (went_on machine (world.states me) (event.Take from) made)) ≡ Some next → Same
+    of_made k =
+        ap world_in (sym (some_same k))
+        ∙ ap (λ cores. net_of cores (put_pair world.transit from me packets)) (put_core world me (went_on machine (world.states me) (event.Take from) made).state)
+        ∙ ap (λ letters. net_of (put (λ other. core_in (world.states other).core) me (net.with_inbox (core_in core) (core.inbox ++ letters))) (put_pair world.transit from me packets))
+        (letters_are from packet.messages)
+
+    is_made : (some : List ℕ) (after : Transition) → steps_to machine me core (event.Take from) some (Some packet) ≡ Some after → made ≡ after
+    is_made [] after e = some_same e
+    is_made (slot ∷ more) after e = absurd (cc)
+
+    of_step : (went : Option Went) → entry_step machine me (world.states me) entry (Some packet) ≡ went → takes_to world me from packets went ≡ Some next → Same
+    of_step None e k = absurd (cc)
+    of_step (Some went) e k =
+        let c = entry_made machine me (world.states me) entry (Some packet) went e in
+        of_made
+        (subst (λ (after : Transition). takes_to world me from packets (Some (went_on machine (world.states me) (event.Take from) after)) ≡ Some next) (sym (is_made slots c.after c.steps))
+        (subst (λ (one : Went). takes_to world me from packets (Some one) ≡ Some next) (sym c.same) k))
+
 pub takes_are : nets.TakesAreTheNets
-takes_are world me from clock packet packets e =
-    let core : Core = ticked (world.cores me) clock in
-    ap (λ cores. net_of cores (put world.transit from (put (world.transit from) me (drop 1 (world.transit from me))))) (put_seen core_in world.cores me (received core from packet.messages))
-    ∙ ap (λ letters. net_of (put (λ other. core_in (world.cores other)) me (net.with_inbox (core_in (world.cores me)) ((world.cores me).inbox ++ letters))) (put world.transit from (put (world.transit from) me (drop 1 (world.transit from me))))) (letters_are from packet.messages)
-    ∙ ap (λ left. net_of (put (λ other. core_in (world.cores other)) me (net.with_inbox (core_in (world.cores me)) ((world.cores me).inbox ++ net.letters from packet.messages))) (put world.transit from (put (world.transit from) me left))) (ap (drop 1) e)
+takes_are machine world next me from clock slots h = of_packets (world.transit from me) h
+  where
+    of_packets : (packets : List Packet)
+        → with_first packets (λ packet rest. takes_to world me from rest (entry_step machine me (world.states me) (record { clock = clock; event = event.Take from; slots = slots }) (Some packet))) ≡ Some next
+        → world_in next ≡ net.taken messages_in (world_in world) me from packets
+    of_packets [] k = absurd (cc)
+    of_packets (packet ∷ packets) k = take_is machine world next me from clock slots packet packets k

@@ -3,7 +3,7 @@ use Rattle.std.proofs.Common.{refl}
 use Rattle.gr_view.specs.Places.{put}
 use Rattle.gr_event.specs.Scopes.{put_scope}
 use Rattle.gr_work.specs.Parts.{middle, offered_in, kept_in, offered, kept_end}
-use Rattle.gr_machine.specs.Buffers.{add_last}
+use Rattle.gr_agg.specs.Buffers.{add_last}
 use Rattle.gr_machine.specs.CounterRows as counter_rows
 use Rattle.gr_machine.specs.BatchRows as batch_rows
 use Rattle.gr_machine.specs.TrapRows as trapped_rows

@@ -1,7 +1,6 @@
--- A Run leaves the words, a Serve opens no scope, and journals grow at their ends.
-use Rattle.std.proofs.Common.{◌≡◌, ℕ, List, [], ◌∷◌, ◌++◌, refl, ◌∙◌, ap}
+-- A Run leaves the words, and a Serve opens no scope.
+use Rattle.std.proofs.Common.{◌≡◌, ℕ, List, [], ◌∷◌, refl, ◌∙◌, ap}
 use Rattle.std.specs.Prelude.{◌==◌, ◌-◌, ◌+◌, nat_lt, drop, Option, Some, None}
-use Rattle.std.specs.Option.{option_and_then}
 use Rattle.gr_lang.specs.declared.action.Action.{Action}
 use Rattle.gr_lang.specs.declared.action.Action.TheVariants as action
 use Rattle.gr_lang.specs.declared.action.How.{How}
@@ -28,7 +27,6 @@ use Rattle.gr_machine.specs.TurnServes.{with_vector, wakes, turn_replies, settle
 use Rattle.gr_machine.specs.Serves.{serves, settles}
 use Rattle.gr_machine.specs.Runs.{acts, run_slot, run_unit, taken_up, is_sound, with_rest, first_unit, without_unit, without_ready}
 use Rattle.gr_machine.specs.Events.{gives, ran_first, served_first}
-use Rattle.gr_machine.specs.LocalRuns.{Local, follows, run_from}
 use Rattle.gr_machine.specs.Laws as laws
 use Rattle.gr_machine.proofs.ActionFacts.{choice, acts_fact}
 use Rattle.gr_machine.proofs.ServeFacts.{serves_fact}
@@ -196,18 +194,3 @@ letters_next machine me core (letter ∷ letters) =
 pub serves_open_nothing : laws.ServesOpenNothing
 serves_open_nothing machine me core = let first : Core = (served_first machine me core core.inbox).core in
     ap (λ (body : Body). body.scopes.next) (body_of me first (gives first.body)) ∙ letters_next machine me core core.inbox
-
--- Journals
-
-pub journals_grow : laws.JournalsGrow
-journals_grow machine me local [] entry = last_one (follows machine me local entry)
-  where
-    last_one : (found : Option Local) → option_and_then (λ next. Some next) found ≡ found
-    last_one None = refl
-    last_one (Some next) = refl
-journals_grow machine me local (first ∷ journal) entry = onward (follows machine me local first) (λ next. journals_grow machine me next journal entry)
-  where
-    onward : (found : Option Local) → ((next : Local) → run_from machine me next (journal ++ entry ∷ []) ≡ option_and_then (λ after. follows machine me after entry) (run_from machine me next journal))
-        → option_and_then (λ next. run_from machine me next (journal ++ entry ∷ [])) found ≡ option_and_then (λ after. follows machine me after entry) (option_and_then (λ next. run_from machine me next journal) found)
-    onward None step = refl
-    onward (Some next) step = step next

@@ -1,15 +1,14 @@
 -- Worked rows of which events are enabled, and which are not.
-use Rattle.std.specs.Prelude.{◌≡◌, ℕ, zero, suc, List, [], ◌∷◌, ◌++◌, map, length, take, Option, Some, None}
-use Rattle.std.specs.Option.{option_map}
+use Rattle.std.specs.Prelude.{◌≡◌, ℕ, zero, suc, List, [], ◌∷◌, ◌++◌, map, length, take, Option, Some}
+use Rattle.std.specs.Option.{option_map, option_map_or}
 use Rattle.std.specs.List.{filter}
 use Rattle.gr_syntax.specs.declared.limits.TheConstants.{HEAP}
 use Rattle.gr_machine.specs.declared.event.Event.{Event}
 use Rattle.gr_machine.specs.declared.event.Event.TheVariants as event
 use Rattle.gr_machine.specs.Machines.{Machine}
 use Rattle.gr_machine.specs.Enabled.{enabled}
-use Rattle.gr_machine.specs.Events.{Transition}
-use Rattle.gr_machine.specs.GlobalRuns.{World, Step, opening_world, transition, world_after, run_of}
-use Rattle.gr_machine.specs.RowWords.{Line, steps_in}
+use Rattle.gr_machine.specs.GlobalRuns.{World, Step, opening_world, global_run}
+use Rattle.gr_machine.specs.RowWords.{Line, steps_in, stepped}
 use Rattle.gr_machine.specs.CounterRows.{counter, counter_lines}
 use Rattle.gr_machine.specs.RemoteRows.{remote, remote_lines}
 use Rattle.gr_machine.specs.BatchRows.{batch, batch_lines}
@@ -32,24 +31,20 @@ events_of machine = event.Serve ∷ event.Run
 
 -- Those that are enabled.
 abbrev pub enabled_at : Machine → World → ℕ → List Event
-enabled_at machine world core = filter (λ what. enabled machine core (world.cores core) what) (events_of machine)
+enabled_at machine world core = filter (λ what. enabled machine core (world.states core).core what) (events_of machine)
 
 -- Those that were enabled at the core of each step before it.
-abbrev pub enabled_after : Option Transition → (Transition → List (List Event)) → List (List Event)
-enabled_after None rest = []
-enabled_after (Some after) rest = rest after
-
 abbrev pub enabled_before : Machine → World → List Step → List (List Event)
 enabled_before machine world [] = []
-enabled_before machine world (step ∷ steps) = enabled_at machine world step.core
-    ∷ enabled_after (transition machine world step) (λ after. enabled_before machine (world_after world step.core step.event after) steps)
+enabled_before machine world (step ∷ steps) =
+    enabled_at machine world step.0 ∷ option_map_or (λ after. enabled_before machine after steps) (stepped machine world step) []
 
 abbrev pub enabled_in : Machine → List Line → List (List Event)
 enabled_in machine lines = enabled_before machine (opening_world machine 0) (steps_in lines)
 
 -- Those that are enabled at a core after some lines.
 abbrev pub enabled_behind : Machine → List Line → ℕ → Option (List Event)
-enabled_behind machine lines core = option_map (λ run. enabled_at machine run.world core) (run_of machine (opening_world machine 0) (steps_in lines))
+enabled_behind machine lines core = option_map (λ world. enabled_at machine world core) (global_run machine 0 (steps_in lines))
 
 -- Of a call at another core: before each of the 21 events. A message is shipped where it fills a packet; a core asks for work only while it is idle, and
 -- not twice; nobody takes from, ships to or asks itself.

@@ -12,7 +12,7 @@ use Rattle.gr_event.specs.declared.counts.LocalCount.TheVariants as count
 use Rattle.gr_event.specs.declared.masters.Waiter.TheVariants as waiter
 use Rattle.gr_machine.specs.Machines.{Machine}
 use Rattle.gr_machine.specs.States.{Scopes}
-use Rattle.gr_machine.specs.GlobalRuns.{opening_world, run_of}
+use Rattle.gr_machine.specs.GlobalRuns.{global_run}
 use Rattle.gr_machine.specs.Outcomes.{marked}
 use Rattle.gr_machine.specs.RowWords.{steps_in, setup_of, objects_of, Script, scripted, machine_with, Line, run, serve, ship, take_from, steal, id, scope, RunsAs, EndsAs, counts_of}
 
@@ -98,7 +98,7 @@ pub record EnrolledEnds : Type 0 where
 
 -- Behind the answer to its question core 1 counts both new tasks, and both cores are active at the master, where main waits.
 abbrev pub scopes_at : ℕ → Option Scopes
-scopes_at core = option_map (λ run. (run.world.cores core).body.scopes) (run_of enrolled (opening_world enrolled 0) (steps_in (take 26 enrolled_lines)))
+scopes_at core = option_map (λ world. (world.states core).core.body.scopes) (global_run enrolled 0 (steps_in (take 26 enrolled_lines)))
 
 pub record EnrolledCounts : Type 0 where
   pub counts : option_map (λ scopes. scopes.counts (scope 0 1)) (scopes_at 1) ≡ Some (Some (count.Active 2))

@@ -9,8 +9,9 @@ use Rattle.gr_view.specs.Places.{put}
 use Rattle.gr_batch.specs.Folding.{wakes_of}
 use Rattle.gr_machine.specs.declared.mark.Mark.{Mark}
 use Rattle.gr_machine.specs.declared.mark.Mark.TheVariants as mark
+use Rattle.gr_machine.specs.declared.journal.StampedMark.{StampedMark}
 use Rattle.gr_machine.specs.Machines.{Machine}
-use Rattle.gr_machine.specs.GlobalRuns.{Step, Noted, global_run}
+use Rattle.gr_machine.specs.GlobalRuns.{Step, global_run}
 
 -- The calls of the batches that have gone off, by core and number.
 abbrev pub Sent : Type 0
@@ -29,18 +30,14 @@ abbrev pub sent_after : Sent → ℕ → Mark → Sent
 sent_after sent core (mark.Closed batch calls) = put sent core (put (sent core) batch calls)
 sent_after sent core _ = sent
 
--- The entries of marks of a core, and then of what comes after them.
-abbrev pub expanded : Sent → ℕ → List Mark → (Sent → List Entry) → List Entry
-expanded sent core [] rest = rest sent
-expanded sent core (first ∷ marks) rest = entries_of sent first ++ expanded (sent_after sent core first) core marks rest
-
-abbrev pub history_from : Sent → List Noted → List Entry
+-- The entries of marks with their cores, where these batches have gone off.
+abbrev pub history_from : Sent → List (ℕ × StampedMark) → List Entry
 history_from sent [] = []
-history_from sent (first ∷ noted) = expanded sent first.core first.marks (λ after. history_from after noted)
+history_from sent (first ∷ marks) = entries_of sent first.1.mark ++ history_from (sent_after sent first.0 first.1.mark) marks
 
--- The history of what was noted, and of steps from the start, where main is in this slot of core 0.
-abbrev pub history_of : List Noted → List Entry
-history_of noted = history_from (λ core batch. []) noted
+-- The history of the marks of a run, and of steps from the start, where main is in this slot of core 0.
+abbrev pub history_of : List (ℕ × StampedMark) → List Entry
+history_of marks = history_from (λ core batch. []) marks
 
 abbrev pub history : Machine → ℕ → List Step → Option (List Entry)
-history machine slot steps = option_map (λ run. history_of run.noted) (global_run machine slot steps)
+history machine slot steps = option_map (λ world. history_of world.marks) (global_run machine slot steps)

@@ -1,7 +1,6 @@
 pub mod Machines
 pub mod States
 pub mod Openings
-pub mod Buffers
 pub mod Outcomes
 pub mod Slots
 pub mod Calls
@@ -17,9 +16,9 @@ pub mod Closes
 pub mod Enabled
 pub mod Events
 pub mod Counting
+pub mod Steppers
 pub mod LocalRuns
 pub mod GlobalRuns
-pub mod Merges
 pub mod Histories
 pub mod Laws
 pub mod Nets

@@ -4,7 +4,8 @@ use Rattle.gr_lang.specs.declared.action.Op.TheVariants as op
 use Rattle.gr_lang.specs.declared.action.Entry.{Entry}
 use Rattle.gr_lang.specs.declared.action.Entry.TheVariants as entry
 use Rattle.gr_lang.specs.Effects.{one}
-use Rattle.gr_machine.specs.Merges.{Located, merge, merged_steps}
+use Rattle.gr_merge.specs.Merges.{merge}
+use Rattle.gr_machine.specs.GlobalRuns.{Step}
 use Rattle.gr_machine.specs.Histories.{history}
 use Rattle.gr_machine.specs.RowWords.{Line, id, journal_in}
 use Rattle.gr_machine.specs.RemoteRows.{remote, remote_lines, remote_history}
@@ -17,13 +18,17 @@ use Rattle.gr_machine.specs.declared.journal.Stamped.{Stamped}
 abbrev pub journals_in : List Line → List (List Stamped)
 journals_in lines = journal_in 0 lines ∷ journal_in 1 lines ∷ []
 
+-- Their merge.
+abbrev pub merged : List Line → List Step
+merged lines = merge (λ entry. entry.clock) (journals_in lines)
+
 -- The core and the clock of each event.
-abbrev pub places : List Located → List (ℕ × ℕ)
-places = map (λ one. (one.core, one.entry.clock))
+abbrev pub places : List Step → List (ℕ × ℕ)
+places = map (λ step. (step.0, step.1.clock))
 
 -- By clock, and of equal clocks core 0 first.
 abbrev pub RemoteMerge : Type 0
-RemoteMerge = places (merge (journals_in remote_lines)) ≡
+RemoteMerge = places (merged remote_lines) ≡
     (0, 1) ∷ (0, 2) ∷ (0, 3) ∷ (1, 3) ∷ (0, 4) ∷ (1, 4) ∷ (1, 5) ∷ (0, 6) ∷ (1, 6) ∷ (0, 7) ∷ (1, 7) ∷ (1, 8) ∷ (1, 9)
     ∷ (0, 10) ∷ (0, 11) ∷ (0, 12) ∷ (0, 13) ∷ (0, 14) ∷ (0, 15) ∷ (0, 16) ∷ (0, 17) ∷ []
 
@@ -50,7 +55,7 @@ looped_merged =
 
 -- The merge of each run is a global run too, and tells this history.
 pub record MergesRun : Type 0 where
-  pub remote : history remote 0 (merged_steps (journals_in remote_lines)) ≡ Some remote_history
-  pub waits : history waits 0 (merged_steps (journals_in waits_lines)) ≡ Some waits_history
-  pub looped : history looped 0 (merged_steps (journals_in looped_lines)) ≡ Some looped_merged
-  pub turn : history turn 0 (merged_steps (journals_in turn_lines)) ≡ Some turn_history
+  pub remote : history remote 0 (merged remote_lines) ≡ Some remote_history
+  pub waits : history waits 0 (merged waits_lines) ≡ Some waits_history
+  pub looped : history looped 0 (merged looped_lines) ≡ Some looped_merged
+  pub turn : history turn 0 (merged turn_lines) ≡ Some turn_history

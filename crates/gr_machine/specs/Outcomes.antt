@@ -6,7 +6,7 @@ use Rattle.gr_msg.specs.declared.message.Msg.{Msg}
 use Rattle.gr_net.specs.Messages as net
 use Rattle.gr_machine.specs.declared.mark.Mark.{Mark}
 use Rattle.gr_machine.specs.declared.mark.Mark.TheVariants as mark
-use Rattle.gr_machine.specs.Buffers.{add_last}
+use Rattle.gr_agg.specs.Buffers.{add_last}
 use Rattle.gr_machine.specs.States.{Body, Core}
 
 -- A message with the core that gets it.

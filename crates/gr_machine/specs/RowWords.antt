@@ -1,7 +1,6 @@
 -- Words in which worked runs are written: tasks that play scripts, and the lines of a run.
 use Rattle.std.specs.Prelude.{◌≡◌, ℕ, ◌+◌, ◌/◌, ◌^◌, ◌==◌, if◌then◌else◌, List, [], ◌∷◌, ◌++◌, length, map, take, drop, slice_index_or, Option, Some}
-use Rattle.std.specs.Option.{option_map, option_map_or, option_and_then}
-use Rattle.std.specs.List.{filter}
+use Rattle.std.specs.Option.{option_map, option_and_then}
 use Rattle.std.specs.FinMap as fin
 use Rattle.gr_lang.specs.declared.action.Action.{Action}
 use Rattle.gr_lang.specs.declared.action.Action.TheVariants as action
@@ -12,6 +11,8 @@ use Rattle.gr_lang.specs.Objects.{Object, Objects}
 use Rattle.gr_lang.specs.Next.{Running, Stands}
 use Rattle.gr_msg.specs.declared.message.ScopeId.{ScopeId}
 use Rattle.gr_msg.specs.declared.message.Msg.{Msg}
+use Rattle.gr_merge.specs.GlobalRuns.{goes_at}
+use Rattle.gr_merge.specs.Merges.{at_core}
 use Rattle.gr_machine.specs.declared.counts.Counts.{Counts}
 use Rattle.gr_machine.specs.declared.event.Event.{Event}
 use Rattle.gr_machine.specs.declared.event.Event.TheVariants as event
@@ -21,9 +22,10 @@ use Rattle.gr_machine.specs.declared.mark.Mark.{Mark}
 use Rattle.gr_machine.specs.declared.setup.Setup.{Setup}
 use Rattle.gr_machine.specs.Machines.{Machine, Code}
 use Rattle.gr_machine.specs.States.{Letter}
-use Rattle.gr_machine.specs.Events.{Packet, Transition}
-use Rattle.gr_machine.specs.LocalRuns.{Local, stamped, local_run}
-use Rattle.gr_machine.specs.GlobalRuns.{World, Step, opening_world, transition, world_after}
+use Rattle.gr_machine.specs.Events.{Packet}
+use Rattle.gr_machine.specs.Steppers.{kind_of, stamped, stepper}
+use Rattle.gr_machine.specs.LocalRuns.{Local, local_run}
+use Rattle.gr_machine.specs.GlobalRuns.{World, Step, opening_world}
 use Rattle.gr_machine.specs.Histories.{history}
 
 -- Machines whose tasks play scripts
@@ -101,37 +103,50 @@ scope core number = record { core = core; number = number }
 
 -- Runs as lines
 
-abbrev pub step_in : Line → Step
-step_in line = record { core = line.core; event = line.event; slots = line.slots }
+abbrev pub entry_in : Line → Stamped
+entry_in line = record { clock = line.clock; event = line.event; slots = line.slots }
 
 abbrev pub steps_in : List Line → List Step
-steps_in = map step_in
+steps_in = map (λ line. (line.core, entry_in line))
+
+-- The world after one step.
+abbrev pub stepped : Machine → World → Step → Option World
+stepped machine world step = goes_at (stepper machine) (kind_of step.1.event) step.0 world step.1
 
 abbrev pub first_message : List Letter → List Msg
 first_message [] = []
 first_message (letter ∷ letters) = letter.message ∷ []
 
--- The message that a Serve acts on, and those that a Ship ships.
-abbrev pub moved_by : World → Step → Event → Transition → List Msg
-moved_by world step event.Serve after = first_message (world.cores step.core).inbox
-moved_by world step _ after = option_map_or (λ packet. packet.messages) after.packet []
+abbrev pub messages_of : List Packet → List Msg
+messages_of [] = []
+messages_of (packet ∷ packets) = packet.messages ++ messages_of packets
 
-abbrev pub line_of : World → Step → Transition → Line
-line_of world step after = record {
-  core = step.core;
-  clock = after.core.clock;
-  event = step.event;
-  slots = step.slots;
-  moved = moved_by world step step.event after;
-  marks = after.marks;
+-- What a list has gained at its end, over one that it had before.
+abbrev pub gained : {X : Type 0} → List X → List X → List X
+gained before after = drop (length before) after
+
+-- The message that a Serve of a core acts on, and those that a Ship ships, by the worlds before and after it.
+abbrev pub moved_by : World → World → ℕ → Event → List Msg
+moved_by before after me event.Serve = first_message (before.states me).core.inbox
+moved_by before after me (event.Ship dest) = messages_of (gained (before.transit me dest) (after.transit me dest))
+moved_by before after me _ = []
+
+abbrev pub line_of : World → World → Step → Line
+line_of before after step = record {
+  core = step.0;
+  clock = (after.states step.0).core.clock;
+  event = step.1.event;
+  slots = step.1.slots;
+  moved = moved_by before after step.0 step.1.event;
+  marks = map (λ mark. mark.1.mark) (gained before.marks after.marks);
 }
 
 -- The lines of some steps.
 abbrev pub lines_from : Machine → World → List Step → Option (List Line)
 lines_from machine world [] = Some []
 lines_from machine world (step ∷ steps) = option_and_then
-    (λ after. option_map (λ lines. line_of world step after ∷ lines) (lines_from machine (world_after world step.core step.event after) steps))
-    (transition machine world step)
+    (λ after. option_map (λ lines. line_of world after step ∷ lines) (lines_from machine after steps))
+    (stepped machine world step)
 
 -- The steps of these lines, from the start with main in slot 0, are a global run of these lines, and tell this history.
 pub record RunsAs (machine : Machine) (lines : List Line) (entries : List Entry) : Type 0 where
@@ -140,11 +155,11 @@ pub record RunsAs (machine : Machine) (lines : List Line) (entries : List Entry)
 
 -- Ends as lines tell them
 
-abbrev pub at_core : ℕ → List Line → List Line
-at_core core lines = filter (λ line. line.core == core) lines
+abbrev pub lines_at : ℕ → List Line → List Line
+lines_at core lines = at_core core (map (λ line. (line.core, line)) lines)
 
 abbrev pub journal_in : ℕ → List Line → List Stamped
-journal_in core lines = map (λ line. record { clock = line.clock; event = line.event; slots = line.slots }) (at_core core lines)
+journal_in core lines = map entry_in (lines_at core lines)
 
 abbrev pub marks_at : List Line → List StampedMark
 marks_at [] = []
@@ -169,7 +184,7 @@ taken_from origin (line ∷ lines) = takes_from origin line.event + taken_from o
 
 -- The packets that a core takes from another.
 abbrev pub received_in : List Line → ℕ → ℕ → List Packet
-received_in lines me origin = take (taken_from origin (at_core me lines)) (shipped_to me (at_core origin lines))
+received_in lines me origin = take (taken_from origin (lines_at me lines)) (shipped_to me (lines_at origin lines))
 
 -- What is seen of an end at two cores.
 pub record Seen : Type 0 where
@@ -179,14 +194,19 @@ pub record Seen : Type 0 where
   pub counts : Counts
 
 abbrev pub seen : Local → Seen
-seen local = record { inward = local.inward 0 ∷ local.inward 1 ∷ []; outward = local.outward 0 ∷ local.outward 1 ∷ []; marks = local.marks; counts = local.counts }
+seen local = record {
+  inward = local.untaken 0 ∷ local.untaken 1 ∷ [];
+  outward = local.shipped 0 ∷ local.shipped 1 ∷ [];
+  marks = local.marks;
+  counts = local.state.counts;
+}
 
 -- The end of a core that these lines tell: all that was received is taken, and it has done this in numbers.
 abbrev pub told_end : ℕ → List Line → Counts → Seen
 told_end me lines counts = record {
   inward = [] ∷ [] ∷ [];
-  outward = shipped_to 0 (at_core me lines) ∷ shipped_to 1 (at_core me lines) ∷ [];
-  marks = marks_at (at_core me lines);
+  outward = shipped_to 0 (lines_at me lines) ∷ shipped_to 1 (lines_at me lines) ∷ [];
+  marks = marks_at (lines_at me lines);
   counts = counts;
 }
 

@@ -1,13 +1,19 @@
-//! The laws of events and of local runs, each the contract of a function that does nothing.
+//! The laws of events and of runs, each the contract of a function that does nothing.
 ghost use Rattle.gr_machine.specs.Laws as laws;
 ghost use Rattle.gr_machine.specs.Nets as nets;
 
-/// A `Run` leaves the words of its core, a `Serve` takes no number for a scope, and a journal with one more entry
-/// comes to what the journal comes to, and then that entry.
+/// A `Run` leaves the words of its core, and a `Serve` takes no number for a scope.
 pub fn events_are_local()
     ensures words { laws.RunsLeaveWords }
     ensures scopes { laws.ServesOpenNothing }
-    ensures journals { laws.JournalsGrow }
+{}
+
+/// The merge of the journals of local runs whose packets match is a global run to their ends, and its marks are the
+/// merge of their marks.
+pub fn runs_merge()
+    ensures clocked { laws.EntriesTick }
+    ensures unused { laws.UnusedCoresRun }
+    ensures merged { laws.RunsMerge }
 {}
 
 /// Without its clocks the machine is a net of messages between cores.

@@ -16,7 +16,7 @@ pub use counts::Counts;
 pub use event::Event;
 pub use event_rows::{enabled_rows, single_rows};
 pub use journal::{Journal, Marks, Stamped, StampedMark};
-pub use laws::{events_are_local, machine_is_net};
+pub use laws::{events_are_local, machine_is_net, runs_merge};
 pub use mark::Mark;
 pub use program_rows::programs_of_runs;
 pub use run_rows::{runs_on_one_core, runs_on_two_cores};

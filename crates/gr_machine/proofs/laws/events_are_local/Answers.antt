@@ -1,4 +1,4 @@
-use Rattle.gr_machine.proofs.Runs.{runs_leave_words, serves_open_nothing, journals_grow}
+use Rattle.gr_machine.proofs.Runs.{runs_leave_words, serves_open_nothing}
 use Rattle.gr_machine.proofs.laws.events_are_local.Goals as goal
 
 pub returns-clause-words : goal.returns-clause-words
@@ -6,6 +6,3 @@ returns-clause-words c = runs_leave_words
 
 pub returns-clause-scopes : goal.returns-clause-scopes
 returns-clause-scopes c = serves_open_nothing
-
-pub returns-clause-journals : goal.returns-clause-journals
-returns-clause-journals c = journals_grow
