@@ -5,10 +5,11 @@ import subprocess, sys, time
 
 TURNS = 3
 LOADS = [  # the load, how often in its greater size, and its second number
-    ("units", 1000000, ""), ("indices", 1000000, ""),
-    ("calls", 1000000, 1), ("calls", 1000000, 10), ("calls", 1000000, 10000),
-    ("keys", 1000000, 10000), ("words", 10000000, ""), ("positions", 1000000, ""), ("turns", 1000000, ""),
-    ("scopes", 1000000, ""),
+    ("steps", 3333333, ""), ("units", 1000000, ""), ("indices", 1000000, ""),
+    ("calls", 1000000, 1), ("calls", 1000000, 10), ("calls", 1000000, 10000), ("keys", 1000000, 10000),
+    ("packets", 1000000, 1), ("packets", 1000000, 32), ("packets", 1000000, 256), ("words", 10000000, ""),
+    ("positions", 1000000, ""), ("turns", 1000000, ""), ("groups", 1000000, ""), ("scopes", 1000000, ""),
+    ("enrolments", 1000000, ""),
 ]
 COLUMNS = ["load", "how often", "seconds", "nanoseconds each", "times the tenth", "what came of it"]
 

@@ -5,6 +5,8 @@
 mod call_load;
 mod count_load;
 mod group_load;
+mod packet_load;
+mod step_load;
 mod unit_load;
 mod word_load;
 
@@ -32,6 +34,8 @@ fn answer(alloc: Global, line: &str, reducers: &Reducers) -> Result<String, Allo
         Some("words") => word_load::words(alloc, count),
         Some("positions") => word_load::positions(alloc, count),
         Some("turns") => word_load::turns(alloc, count),
+        Some("steps") => step_load::steps(alloc, count),
+        Some("packets") => packet_load::packets(alloc, count, size),
         Some("groups") => group_load::groups(alloc, count),
         Some("enrolments") => count_load::enrolments(alloc, count),
         Some("scopes") => count_load::scopes(alloc, count),
