@@ -1,7 +1,7 @@
 #!/usr/bin/env python3
 """Measures the parts of a core: parts.py PROGRAM [LOAD..]. PROGRAM is the built gr_load, a LOAD the name of one of its
 loads, none: all. Prints a table with a row for each load and size; bench/README.md tells what its columns are."""
-import subprocess, sys, time
+import os, subprocess, sys
 
 TURNS = 3
 LOADS = [  # the load, how often in its greater size, and its second number
@@ -11,14 +11,20 @@ LOADS = [  # the load, how often in its greater size, and its second number
     ("positions", 1000000, ""), ("turns", 1000000, ""), ("groups", 1000000, ""), ("scopes", 1000000, ""),
     ("enrolments", 1000000, ""),
 ]
-COLUMNS = ["load", "how often", "seconds", "nanoseconds each", "times the tenth", "what came of it"]
+COLUMNS = ["load", "how often", "seconds of processor", "nanoseconds each", "times the tenth", "what came of it"]
 
 
 def once(program, line):
-    """The seconds of one turn, and what it wrote."""
-    begun = time.monotonic()
-    found = subprocess.run([program], input=line + "\n", stdout=subprocess.PIPE, text=True, check=True)
-    return time.monotonic() - begun, found.stdout.strip().rpartition(": ")[2]
+    """The seconds of processor time of one turn, and what it wrote."""
+    child = subprocess.Popen([program], stdin=subprocess.PIPE, stdout=subprocess.PIPE, text=True)
+    child.stdin.write(line + "\n")
+    child.stdin.close()
+    written = child.stdout.read()
+    _, status, used = os.wait4(child.pid, 0)
+    child.returncode = os.waitstatus_to_exitcode(status)
+    if child.returncode:
+        sys.exit("%s: status %d" % (line, child.returncode))
+    return used.ru_utime + used.ru_stime, written.strip().rpartition(": ")[2]
 
 
 def main():
