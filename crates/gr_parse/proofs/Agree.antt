@@ -7,22 +7,23 @@ use Rattle.gr_meets.proofs.Agrees.{agree_self, agree_bind, agree_skip, agree_exp
 use Rattle.gr_meets.proofs.Runs.{run_meets, run_agree, run_takes_all}
 use Rattle.gr_syntax.specs.declared.syntax.Name.{Name}
 use Rattle.gr_syntax.specs.declared.syntax.Expr.{Expr}
-use Rattle.gr_syntax.specs.declared.syntax.HowText.{HowText}
 use Rattle.gr_syntax.specs.declared.syntax.HowText.TheVariants as how
 use Rattle.gr_syntax.specs.declared.syntax.Stmt.{Stmt}
+use Rattle.gr_syntax.specs.declared.syntax.Stmt.TheVariants as st
 use Rattle.gr_syntax.specs.declared.syntax.Item.{Item}
 use Rattle.gr_syntax.specs.declared.syntax.Item.TheVariants as items
 use Rattle.gr_text.specs.declared.token.Keyword.TheVariants as keys
 use Rattle.gr_text.specs.declared.token.Sign.TheVariants as signs
-use Rattle.gr_parse.specs.Tok.{Tok, is_sign, Toks}
-use Rattle.gr_parse.specs.TokWords.{is_key, name_of, heap_of}
+use Rattle.gr_expressions.specs.Tok.{Tok, is_sign, Toks}
+use Rattle.gr_expressions.specs.TokWords.{is_key, name_of, heap_of, never}
+use Rattle.gr_expressions.specs.OperandsWords.{no_room}
+use Rattle.gr_expressions.specs.Expressions.{IsObject}
+use Rattle.gr_expressions.proofs.Exprs.{expr_meets}
+use Rattle.gr_expressions.proofs.Calls.{name_meets, args_meets, operation_meets, method_meets, call_meets, numbers_meets}
+use Rattle.gr_expressions.proofs.CallsComplete.{args_agree, operation_agree, method_agree, call_agree, numbers_agree, params_list_agree}
 use Rattle.gr_parse.specs.declared.limits.TheConstants.{MAX_NESTING}
-use Rattle.gr_parse.specs.OperandsWords.{no_room}
-use Rattle.gr_parse.specs.ParsingWords.{array, named_item, named_right, heap_right, right_by, right_side, one_target, two_targets, assignment, let_statement, named_statement, heap_statement, print, else_block, if_statement, while_statement, finish, started, spawn, forall_task, forall_statement, plain_statement, key_statement, heap_or, name_or, statement_with, braces, statement, block, input, params, task, key_item, item_by, item, never, program}
-use Rattle.gr_parse.specs.Grammar.{IsObject, IsBlock, IsStmt, IsProgram}
-use Rattle.gr_parse.proofs.Exprs.{expr_meets}
-use Rattle.gr_parse.proofs.Calls.{name_meets, args_meets, operation_meets, method_meets, call_meets, numbers_meets}
-use Rattle.gr_parse.proofs.CallsComplete.{args_agree, operation_agree, method_agree, call_agree, numbers_agree, params_list_agree}
+use Rattle.gr_parse.specs.ParsingWords.{array, named_item, named_right, heap_right, right_by, right_side, one_target, two_targets, assignment, let_statement, named_statement, heap_statement, print, else_block, if_statement, while_statement, finish, started, spawn, forall_statement, plain_statement, key_statement, heap_or, name_or, statement_with, braces, statement, block, input, params, task, key_item, item_by, item, program}
+use Rattle.gr_parse.specs.Grammar.{IsBlock, IsStmt, IsProgram}
 use Rattle.gr_parse.proofs.Stmts.{right_meets, spawned_at_meets, else_meets, no_room_meets, braces_meets, statement_meets, block_meets}
 use Rattle.gr_parse.proofs.StmtsComplete.{stmt_long}
 use Rattle.gr_parse.proofs.ItemsMeet.{params_meets, item_meets, program_meets}
@@ -69,30 +70,26 @@ module _ (n m d : ℕ) where
   unfolding heap_statement
   heap_statement_agree o = agree_bind (method_agree n m d o) (shortens (method_meets n d (Tok.name o) o IsObject.named)) (λ c. agree_self)
 
-  started_agree : (h : HowText) → Agree n m (started n d h) (started m d h)
+  started_agree : (make : Name → List Expr → Stmt) → Agree n m (started n d make) (started m d make)
   unfolding started
-  started_agree h = agree_bind agree_self (shortens name_meets) (λ o. agree_bind (args_agree n m d) (shortens (args_meets n d)) (λ xs. agree_self))
+  started_agree make = agree_bind agree_self (shortens name_meets) (λ o. agree_bind (args_agree n m d) (shortens (args_meets n d)) (λ xs. agree_self))
 
   spawn_agree : Agree n m (spawn n d) (spawn m d)
   unfolding spawn
-  spawn_agree = agree_bind agree_self (shortens (spawned_at_meets d)) started_agree
-
-  forall_task_agree : (lo hi grain : Expr) → Agree n m (forall_task n d lo hi grain) (forall_task m d lo hi grain)
-  unfolding forall_task
-  forall_task_agree lo hi grain = agree_bind agree_self (shortens name_meets) (λ o. agree_bind (args_agree n m d) (shortens (args_meets n d)) (λ xs. agree_self))
+  spawn_agree = agree_bind agree_self (shortens (spawned_at_meets d)) (λ h. started_agree (st.Spawn h))
 
   forall_agree : Agree n m (forall_statement n d) (forall_statement m d)
   unfolding forall_statement
   forall_agree = agree_bind agree_self (shortens (expr_meets d)) (λ lo. agree_expect (is_sign signs.DotDot)
       (agree_bind agree_self (shortens (expr_meets d)) (λ hi. agree_expect (is_key keys.Grain)
-      (agree_bind agree_self (shortens (expr_meets d)) (λ grain. forall_task_agree lo hi grain)))))
+      (agree_bind agree_self (shortens (expr_meets d)) (λ grain. started_agree (st.Forall lo hi grain))))))
 
   plain_agree : Agree n m (plain_statement n d) (plain_statement m d)
   unfolding plain_statement
   plain_agree = agree_either (is_key keys.Let) let_agree
       (agree_either (is_key keys.Print) (agree_self {p = print d})
       (agree_either (is_key keys.Spawn) spawn_agree
-      (agree_either (is_key keys.Offer) (started_agree how.Offer)
+      (agree_either (is_key keys.Offer) (started_agree (st.Spawn how.Offer))
       (agree_either (is_key keys.Forall) forall_agree (agree_self {p = refuse})))))
 
   module _ (p q : Parser Tok (List Stmt)) (same : Agree n m p q) (reads : Meets p (IsBlock d) (IsBlock d)) where

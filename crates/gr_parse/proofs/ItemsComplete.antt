@@ -14,15 +14,16 @@ use Rattle.gr_syntax.specs.declared.syntax.Item.{Item}
 use Rattle.gr_syntax.specs.declared.syntax.Item.TheVariants as items
 use Rattle.gr_text.specs.declared.token.Keyword.TheVariants as keys
 use Rattle.gr_text.specs.declared.token.Sign.TheVariants as signs
-use Rattle.gr_parse.specs.Tok.{Tok, is_sign, same_sign, Toks}
-use Rattle.gr_parse.specs.TokWords.{same_key}
+use Rattle.gr_expressions.specs.Tok.{Tok, is_sign, same_sign, Toks}
+use Rattle.gr_expressions.specs.TokWords.{same_key, never}
+use Rattle.gr_expressions.specs.OperandsWords.{name, number, semicolon}
+use Rattle.gr_expressions.specs.Expressions.{IsName, IsNumber}
+use Rattle.gr_expressions.proofs.TokenTests.{sign_test}
+use Rattle.gr_expressions.proofs.Complete.{Any}
+use Rattle.gr_expressions.proofs.CallsComplete.{name_reads, number_reads, semicolon_reads, numbers_complete, params_list_completes}
 use Rattle.gr_parse.specs.declared.limits.TheConstants.{MAX_NESTING}
-use Rattle.gr_parse.specs.OperandsWords.{name, number, semicolon}
-use Rattle.gr_parse.specs.ParsingWords.{array, named_item, heap_item, input, params, task, key_item, item, never, program, block}
-use Rattle.gr_parse.specs.Grammar.{IsName, IsNumber, IsBlock, IsItem, IsProgram}
-use Rattle.gr_parse.proofs.TokenTests.{sign_test}
-use Rattle.gr_parse.proofs.Complete.{Any}
-use Rattle.gr_parse.proofs.CallsComplete.{name_reads, number_reads, semicolon_reads, numbers_complete, params_list_completes}
+use Rattle.gr_parse.specs.ParsingWords.{array, named_item, heap_item, input, params, task, key_item, item, program, block}
+use Rattle.gr_parse.specs.Grammar.{IsBlock, IsItem, IsProgram}
 use Rattle.gr_parse.proofs.StmtsComplete.{block_completes, behind_few}
 
 module _ (n : ℕ) where

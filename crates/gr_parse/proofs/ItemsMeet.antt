@@ -13,14 +13,15 @@ use Rattle.gr_syntax.specs.declared.syntax.Item.{Item}
 use Rattle.gr_syntax.specs.declared.syntax.Item.TheVariants as items
 use Rattle.gr_text.specs.declared.token.Keyword.TheVariants as keys
 use Rattle.gr_text.specs.declared.token.Sign.TheVariants as signs
-use Rattle.gr_parse.specs.Tok.{Tok, Toks}
-use Rattle.gr_parse.specs.TokWords.{heap_of}
+use Rattle.gr_expressions.specs.Tok.{Tok, Toks}
+use Rattle.gr_expressions.specs.TokWords.{heap_of, never}
+use Rattle.gr_expressions.specs.Expressions.{IsName, IsNumber}
+use Rattle.gr_expressions.proofs.TokenTests.{sign_test, key_test}
+use Rattle.gr_expressions.proofs.Exprs.{nought}
+use Rattle.gr_expressions.proofs.Calls.{nameless, name_then, number_then, semicolon_then, numbers_meets, params_list_meets}
 use Rattle.gr_parse.specs.declared.limits.TheConstants.{MAX_NESTING}
-use Rattle.gr_parse.specs.ParsingWords.{array, named_item, heap_item, input, params, task, key_item, item_by, item, never, program}
-use Rattle.gr_parse.specs.Grammar.{IsName, IsNumber, IsBlock, IsItem, IsProgram}
-use Rattle.gr_parse.proofs.TokenTests.{sign_test, key_test}
-use Rattle.gr_parse.proofs.Exprs.{nought}
-use Rattle.gr_parse.proofs.Calls.{nameless, name_then, number_then, semicolon_then, numbers_meets, params_list_meets}
+use Rattle.gr_parse.specs.ParsingWords.{array, named_item, heap_item, input, params, task, key_item, item_by, item, program}
+use Rattle.gr_parse.specs.Grammar.{IsBlock, IsItem, IsProgram}
 use Rattle.gr_parse.proofs.Stmts.{some_block, block_meets}
 
 array_meets : Meets array (λ b y. IsItem (Tok.key keys.Array ∷ b) y) (λ b y. IsItem (Tok.key keys.Array ∷ b) y)

@@ -1,15 +1,9 @@
-pub mod Words
 pub mod Steps
-pub mod TokenTests
-pub mod Exprs
-pub mod Complete
-pub mod Calls
-pub mod CallsComplete
-pub mod Shorter
 pub mod Stmts
 pub mod StmtsComplete
 pub mod ItemsMeet
 pub mod ItemsComplete
+pub mod Takes
 pub mod Agree
 pub mod Whole
 pub mod Shaped

@@ -12,17 +12,18 @@ use Rattle.gr_text.specs.Text.{AreTokens, token_at}
 use Rattle.gr_text.specs.declared.token.Token.{Token}
 use Rattle.gr_text.specs.declared.token.TokenKind.{TokenKind}
 use Rattle.gr_text.specs.declared.token.TokenKind.TheVariants as kinds
+use Rattle.gr_expressions.specs.declared.fault.Stop.{Stop}
+use Rattle.gr_expressions.specs.declared.fault.Stop.TheVariants as stops
+use Rattle.gr_expressions.specs.Tok.{Tok, toks, Toks}
+use Rattle.gr_expressions.specs.SoundWords.{AreSound}
+use Rattle.gr_expressions.specs.OperandsWords.{plenty}
+use Rattle.gr_expressions.specs.GivesWords.{Fails, Gives}
+use Rattle.gr_expressions.proofs.Steps.{plenty_is}
 use Rattle.gr_parse.specs.declared.fault.ParseError.{ParseError}
 use Rattle.gr_parse.specs.declared.fault.ParseError.TheVariants as errors
-use Rattle.gr_parse.specs.declared.fault.Stop.{Stop}
-use Rattle.gr_parse.specs.declared.fault.Stop.TheVariants as stops
-use Rattle.gr_parse.specs.Tok.{Tok, toks, Toks}
-use Rattle.gr_parse.specs.SoundWords.{AreSound}
-use Rattle.gr_parse.specs.OperandsWords.{plenty}
-use Rattle.gr_parse.specs.ParsingWords.{Fails, Gives, program}
+use Rattle.gr_parse.specs.ParsingWords.{program}
 use Rattle.gr_parse.specs.Grammar.{IsProgramOf, Says}
 use Rattle.gr_parse.specs.ReportsWords.{error_of, error_at, IsWithin, Reports, Stands}
-use Rattle.gr_parse.proofs.Steps.{plenty_is}
 use Rattle.gr_parse.proofs.Agree.{exact}
 use Rattle.gr_parse.proofs.Whole.{Cut, cut, toks_length, program_found, program_read, fault_at_end, fault_at_token}
 

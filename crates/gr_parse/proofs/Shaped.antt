@@ -16,7 +16,7 @@ use Rattle.gr_syntax.specs.declared.syntax.Stmt.TheFolds.{fold-roll-Stmt}
 use Rattle.gr_syntax.specs.declared.syntax.Item.{Item}
 use Rattle.gr_syntax.specs.declared.syntax.Program.{Program}
 use Rattle.gr_syntax.specs.Targets.{fit, fit_step, stmt_fits, item_fits, targets_fit}
-use Rattle.gr_parse.specs.Tok.{Toks}
+use Rattle.gr_expressions.specs.Tok.{Toks}
 use Rattle.gr_parse.specs.Grammar.{IsRight, IsAssignment, IsStmt, IsBlock, IsStmts, IsItem, IsProgram}
 
 fits_set : (fresh : Bool) (targets : List Name) (r : Right) → stmt_fits (st.Set1 fresh targets r) ≡ fit targets r

@@ -17,14 +17,15 @@ use Rattle.gr_syntax.specs.declared.syntax.Stmt.{Stmt}
 use Rattle.gr_syntax.specs.declared.syntax.Stmt.TheVariants as st
 use Rattle.gr_text.specs.declared.token.Keyword.TheVariants as keys
 use Rattle.gr_text.specs.declared.token.Sign.TheVariants as signs
-use Rattle.gr_parse.specs.Tok.{Tok, is_sign, Toks}
-use Rattle.gr_parse.specs.TokWords.{name_of, heap_of}
-use Rattle.gr_parse.specs.OperandsWords.{method, no_room}
-use Rattle.gr_parse.specs.ParsingWords.{named_right, heap_right, right_by, right_side, one_target, two_targets, assignment, let_statement, named_statement, heap_statement, print, else_block, if_statement, while_statement, finish, started, spawned_at, spawn, forall_task, forall_statement, plain_statement, key_statement, heap_or, name_or, statement_with, braces, statement, block}
-use Rattle.gr_parse.specs.Grammar.{IsExpr, IsArgs, IsObject, IsOperation, IsCall, IsRight, IsAssignment, IsHow, IsStmt, IsBlock, IsStmts}
-use Rattle.gr_parse.proofs.TokenTests.{sign_test, key_test, missing_test, name_is, heap_is}
-use Rattle.gr_parse.proofs.Exprs.{nought, nought_is, expr_meets, expr_from_meets}
-use Rattle.gr_parse.proofs.Calls.{nameless, name_then, semicolon_then, some_args, some_call, args_meets, operation_meets, method_meets, call_meets}
+use Rattle.gr_expressions.specs.Tok.{Tok, is_sign, Toks}
+use Rattle.gr_expressions.specs.TokWords.{name_of, heap_of}
+use Rattle.gr_expressions.specs.OperandsWords.{method, no_room}
+use Rattle.gr_expressions.specs.Expressions.{IsExpr, IsArgs, IsObject, IsOperation, IsCall}
+use Rattle.gr_expressions.proofs.TokenTests.{sign_test, key_test, missing_test, name_is, heap_is}
+use Rattle.gr_expressions.proofs.Exprs.{nought, nought_is, expr_meets, expr_from_meets}
+use Rattle.gr_expressions.proofs.Calls.{nameless, name_then, semicolon_then, some_args, some_call, args_meets, operation_meets, method_meets, call_meets}
+use Rattle.gr_parse.specs.ParsingWords.{named_right, heap_right, right_by, right_side, one_target, two_targets, assignment, let_statement, named_statement, heap_statement, print, else_block, if_statement, while_statement, finish, started, spawned_at, spawn, forall_statement, plain_statement, key_statement, heap_or, name_or, statement_with, braces, statement, block}
+use Rattle.gr_parse.specs.Grammar.{IsRight, IsAssignment, IsHow, IsStmt, IsBlock, IsStmts}
 
 -- ---- the right side of an assignment
 
@@ -130,16 +131,16 @@ print_meets d = bind (expr_meets d)
     (λ x. semicolon_then (meets_pure (λ a h. IsStmt.print h)) [] (st.Print x) (λ a h. IsStmt.print h))
     (λ a x h. (Tok.sign signs.Semicolon ∷ [], st.Print x, IsStmt.print h))
 
--- A task's name and its arguments, where such a start makes K.
-started_meets : (turns d : ℕ) (h : HowText) (K : Toks → Stmt → Type 0) → ((n : Name) (ts : Toks) (xs : List Expr) → IsArgs d ts xs → K (Tok.name n ∷ (ts ++ Tok.sign signs.Semicolon ∷ [])) (st.Spawn h n xs)) → Meets (started turns d h) K K
+-- A task's name and its arguments, where what is made of them is in K.
+started_meets : (turns d : ℕ) (make : Name → List Expr → Stmt) (K : Toks → Stmt → Type 0) → ((n : Name) (ts : Toks) (xs : List Expr) → IsArgs d ts xs → K (Tok.name n ∷ (ts ++ Tok.sign signs.Semicolon ∷ [])) (make n xs)) → Meets (started turns d make) K K
 unfolding started
-started_meets turns d h K make =
+started_meets turns d make K holds =
     let any = some_args d in
     name_then
     (λ n. bind (args_meets turns d)
-    (λ xs. semicolon_then (meets_pure (λ a k. make n a xs k)) [] (st.Spawn h n xs) (λ a k. make n a xs k))
-    (λ a xs k. (Tok.sign signs.Semicolon ∷ [], st.Spawn h n xs, make n a xs k)))
-    (Tok.name nameless ∷ (any.0 ++ Tok.sign signs.Semicolon ∷ [])) (st.Spawn h nameless []) (make nameless any.0 [] any.1)
+    (λ xs. semicolon_then (meets_pure (λ a k. holds n a xs k)) [] (make n xs) (λ a k. holds n a xs k))
+    (λ a xs k. (Tok.sign signs.Semicolon ∷ [], make n xs, holds n a xs k)))
+    (Tok.name nameless ∷ (any.0 ++ Tok.sign signs.Semicolon ∷ [])) (make nameless []) (holds nameless any.0 [] any.1)
 
 at_made : {d : ℕ} (ts : Toks) (x : Expr) → IsExpr d ts x → IsHow d (Tok.key keys.Spawn ∷ (Tok.key keys.At ∷ (ts ++ []))) (how.At x)
 at_made {d} ts x h = subst (λ (u : Toks). IsHow d (Tok.key keys.Spawn ∷ (Tok.key keys.At ∷ u)) (how.At x)) (sym (append-nil ts)) (IsHow.at h)
@@ -155,22 +156,11 @@ unfolding spawn
 spawn_meets turns d =
     let any = some_args d in
     bind (spawned_at_meets d)
-    (λ h. started_meets turns d h (λ b y. (a : Toks) → IsHow d (Tok.key keys.Spawn ∷ a) h → IsStmt d (Tok.key keys.Spawn ∷ (a ++ b)) y) (λ n ts xs k a j. IsStmt.spawn j k))
+    (λ h. started_meets turns d (st.Spawn h) (λ b y. (a : Toks) → IsHow d (Tok.key keys.Spawn ∷ a) h → IsStmt d (Tok.key keys.Spawn ∷ (a ++ b)) y) (λ n ts xs k a j. IsStmt.spawn j k))
     (λ a h j. (Tok.name nameless ∷ (any.0 ++ Tok.sign signs.Semicolon ∷ []), st.Spawn h nameless [], IsStmt.spawn j any.1))
 
-offer_meets : (turns d : ℕ) → Meets (started turns d how.Offer) (λ b y. IsStmt d (Tok.key keys.Offer ∷ b) y) (λ b y. IsStmt d (Tok.key keys.Offer ∷ b) y)
-offer_meets turns d = started_meets turns d how.Offer (λ b y. IsStmt d (Tok.key keys.Offer ∷ b) y) (λ n ts xs k. IsStmt.spawn IsHow.offer k)
-
--- A task's name and its arguments, where such a loop makes K.
-forall_task_meets : (turns d : ℕ) (lo hi grain : Expr) (K : Toks → Stmt → Type 0) → ((n : Name) (ts : Toks) (xs : List Expr) → IsArgs d ts xs → K (Tok.name n ∷ (ts ++ Tok.sign signs.Semicolon ∷ [])) (st.Forall lo hi grain n xs)) → Meets (forall_task turns d lo hi grain) K K
-unfolding forall_task
-forall_task_meets turns d lo hi grain K make =
-    let any = some_args d in
-    name_then
-    (λ n. bind (args_meets turns d)
-    (λ xs. semicolon_then (meets_pure (λ a k. make n a xs k)) [] (st.Forall lo hi grain n xs) (λ a k. make n a xs k))
-    (λ a xs k. (Tok.sign signs.Semicolon ∷ [], st.Forall lo hi grain n xs, make n a xs k)))
-    (Tok.name nameless ∷ (any.0 ++ Tok.sign signs.Semicolon ∷ [])) (st.Forall lo hi grain nameless []) (make nameless any.0 [] any.1)
+offer_meets : (turns d : ℕ) → Meets (started turns d (st.Spawn how.Offer)) (λ b y. IsStmt d (Tok.key keys.Offer ∷ b) y) (λ b y. IsStmt d (Tok.key keys.Offer ∷ b) y)
+offer_meets turns d = started_meets turns d (st.Spawn how.Offer) (λ b y. IsStmt d (Tok.key keys.Offer ∷ b) y) (λ n ts xs k. IsStmt.spawn IsHow.offer k)
 
 forall_meets : (turns d : ℕ) → Meets (forall_statement turns d) (λ b y. IsStmt d (Tok.key keys.Forall ∷ b) y) (λ b y. IsStmt d (Tok.key keys.Forall ∷ b) y)
 unfolding forall_statement
@@ -186,7 +176,7 @@ forall_meets turns d =
     (bind (expr_meets d)
     (λ hi. expect_then (key_test keys.Grain)
     (bind (expr_meets d)
-    (λ grain. forall_task_meets turns d lo hi grain
+    (λ grain. started_meets turns d (st.Forall lo hi grain)
     (λ v y. (c : Toks) → IsExpr d c grain → (b : Toks) → IsExpr d b hi → (a : Toks) → IsExpr d a lo → IsStmt d (Tok.key keys.Forall ∷ (a ++ Tok.sign signs.DotDot ∷ (b ++ Tok.key keys.Grain ∷ (c ++ v)))) y)
     (λ n ts xs j c h b g a f. IsStmt.forall_loop f g h j))
     (λ c grain h. (task, st.Forall lo hi grain nameless [], λ b g a f. IsStmt.forall_loop f g h any.1)))

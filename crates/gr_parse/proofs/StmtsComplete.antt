@@ -21,14 +21,15 @@ use Rattle.gr_syntax.specs.declared.syntax.Stmt.TheVariants as st
 use Rattle.gr_text.specs.declared.token.Keyword.{Keyword}
 use Rattle.gr_text.specs.declared.token.Keyword.TheVariants as keys
 use Rattle.gr_text.specs.declared.token.Sign.TheVariants as signs
-use Rattle.gr_parse.specs.Tok.{Tok, is_sign, same_sign, heap_name, Toks}
-use Rattle.gr_parse.specs.TokWords.{is_key, same_key, operator}
-use Rattle.gr_parse.specs.OperandsWords.{semicolon, expr, expr_from, args, operation, call, no_room}
-use Rattle.gr_parse.specs.ParsingWords.{named_right, right_side, one_target, two_targets, assignment, let_statement, done, named_statement, heap_statement, print, else_block, if_statement, while_statement, finish, started, spawned_at, spawn, forall_task, forall_statement, plain_statement, key_statement, statement_with, braces, statement, block}
-use Rattle.gr_parse.specs.Grammar.{IsUnary, IsLevel, IsComparison, IsExpr, IsArgs, IsObject, IsOperation, IsCall, IsRight, IsAssignment, IsHow, IsStmt, IsBlock, IsStmts}
-use Rattle.gr_parse.proofs.TokenTests.{sign_test, key_test, missing_test}
-use Rattle.gr_parse.proofs.Complete.{Any, NoOperator, expr_completes, expr_first}
-use Rattle.gr_parse.proofs.CallsComplete.{BeginsExpr, expr_begins, name_reads, semicolon_reads, args_complete, operation_completes, method_reads, call_completes, semicolon_none, left_brace_none, dot_dot_none, name_none, key_none, missing_none}
+use Rattle.gr_expressions.specs.Tok.{Tok, is_sign, same_sign, heap_name, Toks}
+use Rattle.gr_expressions.specs.TokWords.{is_key, same_key, operator}
+use Rattle.gr_expressions.specs.OperandsWords.{semicolon, expr, expr_from, args, operation, call, no_room}
+use Rattle.gr_expressions.specs.Expressions.{IsUnary, IsLevel, IsComparison, IsExpr, IsArgs, IsObject, IsOperation, IsCall}
+use Rattle.gr_expressions.proofs.TokenTests.{sign_test, key_test, missing_test}
+use Rattle.gr_expressions.proofs.Complete.{Any, NoOperator, expr_completes, expr_first}
+use Rattle.gr_expressions.proofs.CallsComplete.{BeginsExpr, expr_begins, name_reads, semicolon_reads, args_complete, operation_completes, method_reads, call_completes, semicolon_none, left_brace_none, dot_dot_none, name_none, key_none, missing_none}
+use Rattle.gr_parse.specs.ParsingWords.{named_right, right_side, one_target, two_targets, assignment, let_statement, done, named_statement, heap_statement, print, else_block, if_statement, while_statement, finish, started, spawned_at, spawn, forall_statement, plain_statement, key_statement, statement_with, braces, statement, block}
+use Rattle.gr_parse.specs.Grammar.{IsRight, IsAssignment, IsHow, IsStmt, IsBlock, IsStmts}
 use Rattle.gr_parse.proofs.Stmts.{to_repeated}
 
 -- ---- lengths
@@ -147,7 +148,7 @@ module _ (n d : ℕ) (inner : Parser Tok (List Stmt)) where
   unfolding statement_with key_statement plain_statement peek next sees same_key
   with_spawn ts = refl
 
-  with_offer : (ts : Toks) → statement_with n d inner (Tok.key keys.Offer ∷ ts) ≡ started n d how.Offer ts
+  with_offer : (ts : Toks) → statement_with n d inner (Tok.key keys.Offer ∷ ts) ≡ started n d (st.Spawn how.Offer) ts
   unfolding statement_with key_statement plain_statement peek next sees same_key
   with_offer ts = refl
 
@@ -190,12 +191,12 @@ print_reads : {d : ℕ} {ts : Toks} {x : Expr} → IsExpr d ts x → (n : ℕ) (
 unfolding print
 print_reads {d} {ts} {x} h n rest few = reads_then (expr_completes n d) h (Tok.sign signs.Semicolon ∷ []) rest (semicolon_none rest) few (λ x. semicolon >> pure (st.Print x)) (semicolon_reads (pure (st.Print x)) rest refl)
 
-started_reads : {d : ℕ} {ts : Toks} {xs : List Expr} → IsArgs d ts xs → (n : ℕ) (h : HowText) (m : Name) (rest : Toks) → length ((ts ++ Tok.sign signs.Semicolon ∷ []) ++ rest) < n
-    → started n d h (Tok.name m ∷ ((ts ++ Tok.sign signs.Semicolon ∷ []) ++ rest)) ≡ Ok (st.Spawn h m xs, rest)
+started_reads : {d : ℕ} {ts : Toks} {xs : List Expr} → IsArgs d ts xs → (n : ℕ) (make : Name → List Expr → Stmt) (m : Name) (rest : Toks) → length ((ts ++ Tok.sign signs.Semicolon ∷ []) ++ rest) < n
+    → started n d make (Tok.name m ∷ ((ts ++ Tok.sign signs.Semicolon ∷ []) ++ rest)) ≡ Ok (make m xs, rest)
 unfolding started
-started_reads {d} {ts} {xs} k n h m rest few =
-    name_reads m (λ n'. args n d >>= λ xs. semicolon >> pure (st.Spawn h n' xs)) ((ts ++ Tok.sign signs.Semicolon ∷ []) ++ rest)
-    (reads_then (args_complete n d) k (Tok.sign signs.Semicolon ∷ []) rest tt few (λ xs. semicolon >> pure (st.Spawn h m xs)) (semicolon_reads (pure (st.Spawn h m xs)) rest refl))
+started_reads {d} {ts} {xs} k n make m rest few =
+    name_reads m (λ n'. args n d >>= λ xs. semicolon >> pure (make n' xs)) ((ts ++ Tok.sign signs.Semicolon ∷ []) ++ rest)
+    (reads_then (args_complete n d) k (Tok.sign signs.Semicolon ∷ []) rest tt few (λ xs. semicolon >> pure (make m xs)) (semicolon_reads (pure (make m xs)) rest refl))
 
 here_reads : (d : ℕ) (m : Name) (us : Toks) → spawned_at d (Tok.name m ∷ us) ≡ Ok (how.Here, Tok.name m ∷ us)
 unfolding spawned_at sees
@@ -212,21 +213,14 @@ spawn_reads : {d : ℕ} {us ts : Toks} {h : HowText} {xs : List Expr} → IsHow 
 unfolding spawn
 spawn_reads {ts} (IsHow.here {depth = d}) k n inner m rest few =
     with_spawn n d inner (Tok.name m ∷ ((ts ++ Tok.sign signs.Semicolon ∷ []) ++ rest))
-    ∙ then_reads (started n d) (here_reads d m ((ts ++ Tok.sign signs.Semicolon ∷ []) ++ rest)) (started_reads k n how.Here m rest (omega (arith, few)))
+    ∙ then_reads (λ h. started n d (st.Spawn h)) (here_reads d m ((ts ++ Tok.sign signs.Semicolon ∷ []) ++ rest)) (started_reads k n (st.Spawn how.Here) m rest (omega (arith, few)))
 spawn_reads {ts} (IsHow.at {depth = d} {inside = a} {core = x} h) k n inner m rest few =
     let b : Toks = ts ++ Tok.sign signs.Semicolon ∷ [] in
     let less : length (Tok.name m ∷ (b ++ rest)) < n = behind_few n a (Tok.name m ∷ b) rest (omega (arith, few)) in
     with_spawn n d inner (Tok.key keys.At ∷ ((a ++ Tok.name m ∷ b) ++ rest))
-    ∙ then_reads (started n d) (at_reads h n m b rest (omega (arith, few))) (started_reads k n (how.At x) m rest (omega (arith, less)))
+    ∙ then_reads (λ h. started n d (st.Spawn h)) (at_reads h n m b rest (omega (arith, few))) (started_reads k n (st.Spawn (how.At x)) m rest (omega (arith, less)))
 spawn_reads {ts} (IsHow.offer {depth = d}) k n inner m rest few =
-    with_offer n d inner (Tok.name m ∷ ((ts ++ Tok.sign signs.Semicolon ∷ []) ++ rest)) ∙ started_reads k n how.Offer m rest (omega (arith, few))
-
-forall_task_reads : {d : ℕ} {ts : Toks} {xs : List Expr} → IsArgs d ts xs → (n : ℕ) (lo hi grain : Expr) (m : Name) (rest : Toks) → length ((ts ++ Tok.sign signs.Semicolon ∷ []) ++ rest) < n
-    → forall_task n d lo hi grain (Tok.name m ∷ ((ts ++ Tok.sign signs.Semicolon ∷ []) ++ rest)) ≡ Ok (st.Forall lo hi grain m xs, rest)
-unfolding forall_task
-forall_task_reads {d} {ts} {xs} k n lo hi grain m rest few =
-    name_reads m (λ n'. args n d >>= λ xs. semicolon >> pure (st.Forall lo hi grain n' xs)) ((ts ++ Tok.sign signs.Semicolon ∷ []) ++ rest)
-    (reads_then (args_complete n d) k (Tok.sign signs.Semicolon ∷ []) rest tt few (λ xs. semicolon >> pure (st.Forall lo hi grain m xs)) (semicolon_reads (pure (st.Forall lo hi grain m xs)) rest refl))
+    with_offer n d inner (Tok.name m ∷ ((ts ++ Tok.sign signs.Semicolon ∷ []) ++ rest)) ∙ started_reads k n (st.Spawn how.Offer) m rest (omega (arith, few))
 
 forall_reads : {d : ℕ} {a b c ts : Toks} {lo hi grain : Expr} {xs : List Expr} → IsExpr d a lo → IsExpr d b hi → IsExpr d c grain → IsArgs d ts xs → (n : ℕ) (m : Name) (rest : Toks)
     → length ((a ++ Tok.sign signs.DotDot ∷ (b ++ Tok.key keys.Grain ∷ (c ++ Tok.name m ∷ (ts ++ Tok.sign signs.Semicolon ∷ [])))) ++ rest) < n
@@ -240,13 +234,13 @@ forall_reads {d} {a} {b} {c} {ts} {lo} {hi} {grain} {xs} f g h k n m rest few =
     let few3 : length (Tok.key keys.Grain ∷ (third ++ rest)) < n = behind_few n b (Tok.key keys.Grain ∷ third) rest (omega (arith, few2)) in
     let few4 : length (Tok.name m ∷ (task ++ rest)) < n = behind_few n c (Tok.name m ∷ task) rest (omega (arith, few3)) in
     reads_then (expr_completes n d) f (Tok.sign signs.DotDot ∷ second) rest (dot_dot_none (second ++ rest)) few
-    (λ lo. expect (is_sign signs.DotDot) >> (expr d >>= λ hi. expect (is_key keys.Grain) >> (expr d >>= λ grain. forall_task n d lo hi grain)))
-    (expect_reads (sign_test signs.DotDot) (expr d >>= λ hi. expect (is_key keys.Grain) >> (expr d >>= λ grain. forall_task n d lo hi grain)) (second ++ rest)
+    (λ lo. expect (is_sign signs.DotDot) >> (expr d >>= λ hi. expect (is_key keys.Grain) >> (expr d >>= λ grain. started n d (st.Forall lo hi grain))))
+    (expect_reads (sign_test signs.DotDot) (expr d >>= λ hi. expect (is_key keys.Grain) >> (expr d >>= λ grain. started n d (st.Forall lo hi grain))) (second ++ rest)
     (reads_then (expr_completes n d) g (Tok.key keys.Grain ∷ third) rest (key_none keys.Grain (third ++ rest)) (omega (arith, few2))
-    (λ hi. expect (is_key keys.Grain) >> (expr d >>= λ grain. forall_task n d lo hi grain))
-    (expect_reads (key_test keys.Grain) (expr d >>= λ grain. forall_task n d lo hi grain) (third ++ rest)
+    (λ hi. expect (is_key keys.Grain) >> (expr d >>= λ grain. started n d (st.Forall lo hi grain)))
+    (expect_reads (key_test keys.Grain) (expr d >>= λ grain. started n d (st.Forall lo hi grain)) (third ++ rest)
     (reads_then (expr_completes n d) h (Tok.name m ∷ task) rest (name_none m (task ++ rest)) (omega (arith, few3))
-    (λ grain. forall_task n d lo hi grain) (forall_task_reads k n lo hi grain m rest (omega (arith, few4)))))))
+    (λ grain. started n d (st.Forall lo hi grain)) (started_reads k n (st.Forall lo hi grain) m rest (omega (arith, few4)))))))
 
 -- ---- statements with blocks
 

@@ -10,9 +10,9 @@ use Rattle.gr_text.specs.Text.{AreTokens, token_at}
 use Rattle.gr_text.specs.declared.token.Token.{Token}
 use Rattle.gr_text.specs.declared.token.TokenKind.{TokenKind}
 use Rattle.gr_text.specs.declared.token.TokenKind.TheVariants as kinds
+use Rattle.gr_expressions.specs.Tok.{tok_of, toks, Toks}
 use Rattle.gr_parse.specs.declared.fault.ParseError.{ParseError}
 use Rattle.gr_parse.specs.declared.fault.ParseError.TheVariants as errors
-use Rattle.gr_parse.specs.Tok.{tok_of, toks, Toks}
 use Rattle.gr_parse.specs.Grammar.{IsProgram, IsProgramOf, Reached, Says}
 use Rattle.gr_parse.specs.ReportsWords.{error_of, error_at}
 use Rattle.gr_parse.proofs.Agree.{exact}

@@ -8,8 +8,8 @@ use Rattle.gr_syntax.specs.declared.syntax.Item.{Item}
 use Rattle.gr_syntax.specs.declared.syntax.Program.{Program}
 use Rattle.gr_text.specs.declared.token.Token.{Token}
 use Rattle.gr_text.specs.declared.token.TokenKind.TheVariants as kinds
+use Rattle.gr_expressions.specs.Tok.{tok_of, toks, Toks}
 use Rattle.gr_parse.specs.declared.fault.ParseError.TheVariants as errors
-use Rattle.gr_parse.specs.Tok.{tok_of, toks, Toks}
 use Rattle.gr_parse.specs.ParsingWords.{program}
 use Rattle.gr_parse.specs.Grammar.{IsProgram, IsProgramOf, Reached, Says}
 use Rattle.gr_parse.proofs.Agree.{exact}

@@ -1,8 +1,4 @@
-pub mod Tok
 pub mod Grammar
 -- For proofs and private functions.
-pub mod TokWords
-pub mod SoundWords
-pub mod OperandsWords
 pub mod ParsingWords
 pub mod ReportsWords

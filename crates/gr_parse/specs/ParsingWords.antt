@@ -1,6 +1,6 @@
 -- The parser as a specification, from statements on: what each function of the code reads, from the tokens that are left.
-use Rattle.std.specs.Prelude.{◌≡◌, ℕ, zero, suc, Bool, true, false, List, [], ◌∷◌, Option, Some, None, Result, Ok, Err}
-use Rattle.gr_meets.specs.Parsers.{Outcome, Parser, ◌>>=◌, ◌>>◌, pure, refuse, skip, expect, either, look, run, separated, enclosed}
+use Rattle.std.specs.Prelude.{ℕ, zero, suc, Bool, true, false, List, [], ◌∷◌, Option, Some, None}
+use Rattle.gr_meets.specs.Parsers.{Parser, ◌>>=◌, ◌>>◌, pure, refuse, skip, expect, either, look, run, separated, enclosed}
 use Rattle.gr_syntax.specs.declared.syntax.Name.{Name}
 use Rattle.gr_syntax.specs.declared.syntax.Expr.{Expr}
 use Rattle.gr_syntax.specs.declared.syntax.Expr.TheVariants as e
@@ -15,14 +15,11 @@ use Rattle.gr_syntax.specs.declared.syntax.Item.{Item}
 use Rattle.gr_syntax.specs.declared.syntax.Item.TheVariants as items
 use Rattle.gr_text.specs.declared.token.Keyword.TheVariants as k
 use Rattle.gr_text.specs.declared.token.Sign.TheVariants as s
-use Rattle.gr_parse.specs.declared.fault.Stop.{Stop}
-use Rattle.gr_parse.specs.declared.fault.Stop.TheVariants as stops
-use Rattle.gr_parse.specs.Tok.{Tok, is_sign}
-use Rattle.gr_parse.specs.TokWords.{is_key, name_of, heap_of}
-pub use Rattle.gr_parse.specs.Tok.{Toks}
-pub use Rattle.gr_parse.specs.declared.limits.TheConstants.{MAX_NESTING, MAX_SIGNS, LOOSEST}
-pub use Rattle.gr_parse.specs.OperandsWords.{plenty, name, number, semicolon, Counted, negation, two, atom, comparing, comparison, group, unary, expr, expr_from, no_room, args, some_name, reducer, operation, method, call}
-pub use Rattle.gr_parse.specs.Grammar.{call_of}
+use Rattle.gr_expressions.specs.Tok.{Tok, is_sign}
+use Rattle.gr_expressions.specs.TokWords.{is_key, name_of, heap_of, never}
+use Rattle.gr_expressions.specs.OperandsWords.{name, number, semicolon, expr, expr_from, no_room, args, operation, method, call}
+use Rattle.gr_parse.specs.declared.limits.TheConstants.{MAX_NESTING}
+pub use Rattle.gr_expressions.specs.OperandsWords.{plenty}
 
 -- ---- statements
 
@@ -83,29 +80,26 @@ while_statement d inner = expr d >>= λ x. inner >>= λ xs. pure (st.While x xs)
 unfoldable pub finish : Parser Tok (List Stmt) → Parser Tok Stmt
 finish inner = inner >>= λ xs. pure (st.Finish xs)
 
--- A task's name and its arguments.
-unfoldable pub started : ℕ → ℕ → HowText → Parser Tok Stmt
-started turns d h = name >>= λ n. args turns d >>= λ xs. semicolon >> pure (st.Spawn h n xs)
+-- A task's name and its arguments, and what is made of them.
+unfoldable pub started : ℕ → ℕ → (Name → List Expr → Stmt) → Parser Tok Stmt
+started turns d make = name >>= λ n. args turns d >>= λ xs. semicolon >> pure (make n xs)
 
 -- Where a task is spawned.
 unfoldable pub spawned_at : ℕ → Parser Tok HowText
 spawned_at d = either (is_key k.At) (expr d >>= λ x. pure (how.At x)) (pure how.Here)
 
 unfoldable pub spawn : ℕ → ℕ → Parser Tok Stmt
-spawn turns d = spawned_at d >>= started turns d
-
-unfoldable pub forall_task : ℕ → ℕ → Expr → Expr → Expr → Parser Tok Stmt
-forall_task turns d lo hi grain = name >>= λ n. args turns d >>= λ xs. semicolon >> pure (st.Forall lo hi grain n xs)
+spawn turns d = spawned_at d >>= λ h. started turns d (st.Spawn h)
 
 unfoldable pub forall_statement : ℕ → ℕ → Parser Tok Stmt
-forall_statement turns d = expr d >>= λ lo. expect (is_sign s.DotDot) >> (expr d >>= λ hi. expect (is_key k.Grain) >> (expr d >>= λ grain. forall_task turns d lo hi grain))
+forall_statement turns d = expr d >>= λ lo. expect (is_sign s.DotDot) >> (expr d >>= λ hi. expect (is_key k.Grain) >> (expr d >>= λ grain. started turns d (st.Forall lo hi grain)))
 
 -- A statement that begins with a keyword and has no block.
 unfoldable pub plain_statement : ℕ → ℕ → Parser Tok Stmt
 plain_statement turns d = either (is_key k.Let) (let_statement turns d)
     (either (is_key k.Print) (print d)
     (either (is_key k.Spawn) (spawn turns d)
-    (either (is_key k.Offer) (started turns d how.Offer)
+    (either (is_key k.Offer) (started turns d (st.Spawn how.Offer))
     (either (is_key k.Forall) (forall_statement turns d) refuse))))
 
 -- A statement that begins with a keyword.
@@ -177,20 +171,6 @@ item_by turns (Some n) = skip >> heap_item
 unfoldable pub item : ℕ → Parser Tok Item
 item turns = look heap_of (item_by turns)
 
-abbrev pub never : Tok → Bool
-never _ = false
-
 -- Items, to the end of the tokens.
 unfoldable pub program : ℕ → Parser Tok (List Item)
 program turns = run never (item turns) turns []
-
--- ---- what a function of the parser ensures: this outcome, unless memory runs out
-
--- The error is how many tokens are left from the fault on, the end of the text not counted.
-abbrev pub Fails : {Y : Type 0} → Stop → Outcome Tok Y → Type 0
-Fails stops.OutOfMemory read = Unit {0}
-Fails (stops.Fault left) read = read ≡ Err left
-
-abbrev pub Gives : {X Y : Type 0} → (X → Y × Toks) → Result X Stop → Outcome Tok Y → Type 0
-Gives view (Ok x) read = read ≡ Ok (view x)
-Gives view (Err stop) read = Fails stop read

@@ -4,10 +4,10 @@ use Rattle.gr_syntax.specs.declared.syntax.Place.{Place}
 use Rattle.gr_text.specs.declared.token.Token.{Token}
 use Rattle.gr_text.specs.declared.token.TokenKind.{TokenKind}
 use Rattle.gr_text.specs.declared.token.TokenKind.TheVariants as kind
+use Rattle.gr_expressions.specs.declared.fault.Stop.{Stop}
+use Rattle.gr_expressions.specs.declared.fault.Stop.TheVariants as stops
 use Rattle.gr_parse.specs.declared.fault.ParseError.{ParseError}
 use Rattle.gr_parse.specs.declared.fault.ParseError.TheVariants as errors
-use Rattle.gr_parse.specs.declared.fault.Stop.{Stop}
-use Rattle.gr_parse.specs.declared.fault.Stop.TheVariants as stops
 
 abbrev pub error_of : TokenKind → Place → ParseError
 error_of kind.End at = errors.UnexpectedEnd at.line at.column

@@ -1,15 +1,10 @@
 //! Assignments, and what stands right of `=`.
 
 ghost use Rattle.std.specs.Prelude.{◌≡◌, [], ◌∷◌, IfOk};
+ghost use Rattle.gr_expressions.specs.GivesWords.{Gives};
 ghost use Rattle.gr_parse.specs.ParsingWords as spec;
-ghost use Rattle.gr_parse.specs.ParsingWords.{Gives};
 
-use crate::arguments::{call, method, operation};
-use crate::expressions::{expr, expr_from};
-use crate::fault::Stop;
-use crate::lists::name;
-use crate::meaning::make_heap_name;
-use crate::rest::Rest;
+use gr_expressions::{Rest, Stop, call, expr, expr_from, make_heap_name, method, name, operation};
 use gr_syntax::{Expr, Name, Names, Right, Stmt};
 use gr_text::Sign;
 use sqlite_items::Items;
@@ -74,14 +69,13 @@ fn one_name(alloc: Global, first: Name) -> Result<Names, AllocError>
 fn two_names(alloc: Global, first: Name, second: Name) -> Result<Names, AllocError>
     ensures { IfOk result (λ names. names ≡ first ∷ second ∷ []) }
 {
-    let mut names = Items::new(alloc);
-    names.push(first)?;
+    let mut names = one_name(alloc, first)?;
     names.push(second)?;
     Ok(names)
 }
 
 /// An assignment to one target, behind `=`.
-#[tactic(auto, unfolding(crate::specs::ParsingWords::one_target, crate::specs::OperandsWords::semicolon))]
+#[tactic(auto, unfolding(crate::specs::ParsingWords::one_target, gr_expressions::specs::OperandsWords::semicolon))]
 fn one_target<'a>(
     alloc: Global,
     rest: Rest<'a>,
@@ -103,7 +97,7 @@ fn one_target<'a>(
 }
 
 /// An assignment to two targets, behind the comma.
-#[tactic(auto, unfolding(crate::specs::ParsingWords::two_targets, crate::specs::OperandsWords::semicolon))]
+#[tactic(auto, unfolding(crate::specs::ParsingWords::two_targets, gr_expressions::specs::OperandsWords::semicolon))]
 fn two_targets<'a>(
     alloc: Global,
     rest: Rest<'a>,

@@ -3,15 +3,12 @@
 ghost use Rattle.std.specs.Prelude.{◌≡◌, [], None};
 ghost use Rattle.gr_meets.specs.Parsers as read;
 ghost use Rattle.gr_text.specs.declared.token.Sign.TheVariants as signs;
-ghost use Rattle.gr_parse.specs.TokWords as tok;
+ghost use Rattle.gr_expressions.specs.TokWords as tok;
+ghost use Rattle.gr_expressions.specs.GivesWords.{Gives};
 ghost use Rattle.gr_parse.specs.ParsingWords as spec;
-ghost use Rattle.gr_parse.specs.ParsingWords.{Gives};
 
-use crate::expressions::expr;
-use crate::fault::Stop;
-use crate::meaning::make_heap_name;
-use crate::rest::Rest;
 use crate::starts::{heap_statement, named_statement, plain_statement};
+use gr_expressions::{Rest, Stop, expr, make_heap_name};
 use gr_syntax::{Block, Stmt};
 use gr_text::{Keyword, Sign};
 use sqlite_items::Items;

@@ -3,21 +3,19 @@
 ghost use Rattle.std.specs.Prelude.{◌≡◌, []};
 ghost use Rattle.gr_syntax.specs.declared.syntax.Name.{Name as NameValue};
 ghost use Rattle.gr_syntax.specs.declared.syntax.Item.{Item as ItemValue};
+ghost use Rattle.gr_expressions.specs.GivesWords.{Gives};
 ghost use Rattle.gr_parse.specs.ParsingWords as spec;
-ghost use Rattle.gr_parse.specs.ParsingWords.{Gives};
 
 use crate::blocks::block;
-use crate::fault::Stop;
 use crate::limits::MAX_NESTING;
-use crate::lists::{enclosed, name, number, separated};
-use crate::rest::Rest;
+use gr_expressions::{Rest, Stop, enclosed, name, number, separated};
 use gr_syntax::{Item, Name, Names};
 use gr_text::{Keyword, Sign};
 use sqlite_items::Items;
 use std::alloc::Global;
 
 /// An array behind its keyword.
-#[tactic(auto, unfolding(crate::specs::ParsingWords::array, crate::specs::OperandsWords::semicolon))]
+#[tactic(auto, unfolding(crate::specs::ParsingWords::array, gr_expressions::specs::OperandsWords::semicolon))]
 fn array<'a>(alloc: Global, rest: Rest<'a>) -> Result<(Item, Rest<'a>), Stop>
     ensures { Gives (λ x. x) result (spec.array rest.entry) }
 {
@@ -30,7 +28,7 @@ fn array<'a>(alloc: Global, rest: Rest<'a>) -> Result<(Item, Rest<'a>), Stop>
 }
 
 /// The name of an item that has nothing else.
-#[tactic(auto, unfolding(crate::specs::ParsingWords::named_item, crate::specs::OperandsWords::semicolon))]
+#[tactic(auto, unfolding(crate::specs::ParsingWords::named_item, gr_expressions::specs::OperandsWords::semicolon))]
 fn named<'a>(alloc: Global, rest: Rest<'a>) -> Result<(Name, Rest<'a>), Stop>
     ensures { (make : NameValue → ItemValue) → Gives (λ x. (make x.0, x.1)) result
         (spec.named_item make rest.entry) }
@@ -41,7 +39,7 @@ fn named<'a>(alloc: Global, rest: Rest<'a>) -> Result<(Name, Rest<'a>), Stop>
 }
 
 /// The heap behind its keyword.
-#[tactic(auto, unfolding(crate::specs::ParsingWords::heap_item, crate::specs::OperandsWords::semicolon))]
+#[tactic(auto, unfolding(crate::specs::ParsingWords::heap_item, gr_expressions::specs::OperandsWords::semicolon))]
 fn heap<'a>(rest: Rest<'a>) -> Result<(Item, Rest<'a>), Stop>
     ensures { Gives (λ x. x) result (spec.heap_item rest.entry) }
 {
@@ -51,7 +49,7 @@ fn heap<'a>(rest: Rest<'a>) -> Result<(Item, Rest<'a>), Stop>
 }
 
 /// The first words of an array, behind `input`.
-#[tactic(auto, unfolding(crate::specs::ParsingWords::input, crate::specs::OperandsWords::semicolon))]
+#[tactic(auto, unfolding(crate::specs::ParsingWords::input, gr_expressions::specs::OperandsWords::semicolon))]
 fn input<'a>(alloc: Global, rest: Rest<'a>) -> Result<(Item, Rest<'a>), Stop>
     ensures { Gives (λ x. x) result (spec.input spec.plenty rest.entry) }
 {

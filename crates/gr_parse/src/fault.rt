@@ -1,6 +1,5 @@
 //! Why a text is no program.
 
-use std::alloc::{AllocError, AllocFailed};
 use thiserror::Error;
 
 /// Why the parser gives no program.
@@ -15,35 +14,4 @@ pub enum ParseError {
     /// There was no memory.
     #[error("out of memory")]
     OutOfMemory,
-}
-
-/// Why a part of the parser read nothing.
-#[derive(Drop)]
-pub enum Stop {
-    /// There was no memory.
-    OutOfMemory,
-    /// The first fault is where so many tokens are left, the end not counted.
-    Fault { left: usize },
-}
-
-impl From<AllocError> for Stop {
-    ghost use Rattle.std.specs.Prelude.{◌≡◌};
-    ghost use Rattle.gr_parse.specs.declared.fault.Stop.TheVariants as stops;
-
-    ghost from_gives = { λ _ e. e ≡ stops.OutOfMemory };
-
-    fn from(_error: AllocError) -> Stop {
-        Stop::OutOfMemory
-    }
-}
-
-impl<T: Drop> From<AllocFailed<T>> for Stop {
-    ghost use Rattle.std.specs.Prelude.{◌≡◌};
-    ghost use Rattle.gr_parse.specs.declared.fault.Stop.TheVariants as stops;
-
-    ghost from_gives = { λ _ e. e ≡ stops.OutOfMemory };
-
-    fn from(_error: AllocFailed<T>) -> Stop {
-        Stop::OutOfMemory
-    }
 }

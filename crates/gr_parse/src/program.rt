@@ -9,8 +9,8 @@ ghost use Rattle.gr_parse.specs.ReportsWords as reports;
 ghost use Rattle.gr_parse.specs.ReportsWords.{IsWithin, Reports, Stands};
 
 use crate::declarations::items;
-use crate::fault::{ParseError, Stop};
-use crate::rest::Rest;
+use crate::fault::ParseError;
+use gr_expressions::{Rest, Stop};
 use gr_syntax::Program;
 use gr_text::{Token, TokenKind, Tokens};
 use std::alloc::Global;

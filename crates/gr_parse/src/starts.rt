@@ -1,16 +1,17 @@
 //! Statements without a block.
 
-ghost use Rattle.std.specs.Prelude.{◌≡◌};
+ghost use Rattle.std.specs.Prelude.{◌≡◌, List};
+ghost use Rattle.gr_syntax.specs.declared.syntax.Name.{Name as NameValue};
+ghost use Rattle.gr_syntax.specs.declared.syntax.Expr.{Expr as ExprValue};
+ghost use Rattle.gr_syntax.specs.declared.syntax.HowText.TheVariants as hows;
+ghost use Rattle.gr_syntax.specs.declared.syntax.Stmt.{Stmt as StmtValue};
+ghost use Rattle.gr_syntax.specs.declared.syntax.Stmt.TheVariants as stmts;
+ghost use Rattle.gr_expressions.specs.GivesWords.{Gives};
 ghost use Rattle.gr_parse.specs.ParsingWords as spec;
-ghost use Rattle.gr_parse.specs.ParsingWords.{Gives};
 
-use crate::arguments::{args, method, operation};
 use crate::assignments::assignment;
-use crate::expressions::expr;
-use crate::fault::Stop;
-use crate::lists::name;
-use crate::rest::Rest;
-use gr_syntax::{Expr, HowText, Name, Stmt};
+use gr_expressions::{Rest, Stop, args, expr, method, name, operation};
+use gr_syntax::{Exprs, HowText, Name, Stmt};
 use gr_text::{Keyword, Sign};
 use std::alloc::Global;
 
@@ -24,7 +25,7 @@ fn let_statement<'a>(alloc: Global, rest: Rest<'a>, depth: usize) -> Result<(Stm
 }
 
 /// A statement behind the name that it begins with.
-#[tactic(auto, unfolding(crate::specs::ParsingWords::named_statement, crate::specs::OperandsWords::semicolon))]
+#[tactic(auto, unfolding(crate::specs::ParsingWords::named_statement, gr_expressions::specs::OperandsWords::semicolon))]
 pub fn named_statement<'a>(
     alloc: Global,
     rest: Rest<'a>,
@@ -42,7 +43,7 @@ pub fn named_statement<'a>(
 }
 
 /// A statement behind `heap`.
-#[tactic(auto, unfolding(crate::specs::ParsingWords::heap_statement, crate::specs::OperandsWords::semicolon))]
+#[tactic(auto, unfolding(crate::specs::ParsingWords::heap_statement, gr_expressions::specs::OperandsWords::semicolon))]
 pub fn heap_statement<'a>(
     alloc: Global,
     rest: Rest<'a>,
@@ -57,7 +58,7 @@ pub fn heap_statement<'a>(
 }
 
 /// A statement behind `print`.
-#[tactic(auto, unfolding(crate::specs::ParsingWords::print, crate::specs::OperandsWords::semicolon))]
+#[tactic(auto, unfolding(crate::specs::ParsingWords::print, gr_expressions::specs::OperandsWords::semicolon))]
 fn print<'a>(alloc: Global, rest: Rest<'a>, depth: usize) -> Result<(Stmt, Rest<'a>), Stop>
     ensures { Gives (λ x. x) result (spec.print depth rest.entry) }
 {
@@ -66,21 +67,16 @@ fn print<'a>(alloc: Global, rest: Rest<'a>, depth: usize) -> Result<(Stmt, Rest<
     Ok((Stmt::Print { value }, rest))
 }
 
-/// A task's name and its arguments.
-#[tactic(auto, unfolding(crate::specs::ParsingWords::started, crate::specs::OperandsWords::semicolon))]
-fn started<'a>(
-    alloc: Global,
-    rest: Rest<'a>,
-    depth: usize,
-    how: HowText,
-) -> Result<(Stmt, Rest<'a>), Stop>
-    ensures { Gives (λ x. x) result (spec.started spec.plenty depth how rest.entry) }
+/// A task's name and its arguments, of which any statement may be made.
+#[tactic(auto, unfolding(crate::specs::ParsingWords::started, gr_expressions::specs::OperandsWords::semicolon))]
+fn started<'a>(alloc: Global, rest: Rest<'a>, depth: usize) -> Result<(Name, Exprs, Rest<'a>), Stop>
+    ensures { (make : NameValue → List ExprValue → StmtValue)
+        → Gives (λ x. (make x.0 x.1, x.2)) result (spec.started spec.plenty depth make rest.entry) }
 {
     let (target, rest) = name(alloc, rest)?;
     let (args, rest) = args(alloc, rest, depth)?;
     let rest = rest.expect(Sign::Semicolon)?;
-    let statement = Stmt::Spawn { how, target, args };
-    Ok((statement, rest))
+    Ok((target, args, rest))
 }
 
 /// Where a task is spawned.
@@ -101,32 +97,17 @@ fn spawn<'a>(alloc: Global, rest: Rest<'a>, depth: usize) -> Result<(Stmt, Rest<
     ensures { Gives (λ x. x) result (spec.spawn spec.plenty depth rest.entry) }
 {
     let (how, rest) = spawned_at(alloc, rest, depth)?;
-    started(alloc, rest, depth, how)
+    let (target, args, rest) = started(alloc, rest, depth)?;
+    Ok((Stmt::Spawn { how, target, args }, rest))
 }
 
-/// The task of a `forall`, and its arguments.
-#[tactic(auto, unfolding(crate::specs::ParsingWords::forall_task, crate::specs::OperandsWords::semicolon))]
-fn forall_task<'a>(
-    alloc: Global,
-    rest: Rest<'a>,
-    depth: usize,
-    lo: Expr,
-    hi: Expr,
-    grain: Expr,
-) -> Result<(Stmt, Rest<'a>), Stop>
-    ensures { Gives (λ x. x) result (spec.forall_task spec.plenty depth lo hi grain rest.entry) }
+/// A statement behind `offer`.
+fn offer<'a>(alloc: Global, rest: Rest<'a>, depth: usize) -> Result<(Stmt, Rest<'a>), Stop>
+    ensures { Gives (λ x. x) result (spec.started spec.plenty depth (stmts.Spawn hows.Offer) rest.entry) }
 {
-    let (target, rest) = name(alloc, rest)?;
-    let (args, rest) = args(alloc, rest, depth)?;
-    let rest = rest.expect(Sign::Semicolon)?;
-    let statement = Stmt::Forall {
-        lo,
-        hi,
-        grain,
-        target,
-        args,
-    };
-    Ok((statement, rest))
+    let how = HowText::Offer;
+    let (target, args, rest) = started(alloc, rest, depth)?;
+    Ok((Stmt::Spawn { how, target, args }, rest))
 }
 
 /// A statement behind `forall`.
@@ -143,7 +124,15 @@ fn forall_statement<'a>(
     let (hi, rest) = expr(alloc, rest, depth)?;
     let rest = rest.expect_word(Keyword::Grain)?;
     let (grain, rest) = expr(alloc, rest, depth)?;
-    forall_task(alloc, rest, depth, lo, hi, grain)
+    let (target, args, rest) = started(alloc, rest, depth)?;
+    let statement = Stmt::Forall {
+        lo,
+        hi,
+        grain,
+        target,
+        args,
+    };
+    Ok((statement, rest))
 }
 
 /// A statement that begins with a keyword and has no block.
@@ -165,7 +154,7 @@ pub fn plain_statement<'a>(
         return spawn(alloc, rest.next(), depth);
     }
     if rest.sees_word(Keyword::Offer) {
-        return started(alloc, rest.next(), depth, HowText::Offer);
+        return offer(alloc, rest.next(), depth);
     }
     if rest.sees_word(Keyword::Forall) {
         return forall_statement(alloc, rest.next(), depth);

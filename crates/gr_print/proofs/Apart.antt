@@ -18,7 +18,7 @@ use Rattle.gr_text.specs.declared.token.Keyword.{Keyword}
 use Rattle.gr_text.specs.declared.token.Keyword.TheVariants as k
 use Rattle.gr_text.specs.declared.token.Sign.{Sign}
 use Rattle.gr_text.specs.declared.token.Sign.TheVariants as s
-use Rattle.gr_parse.specs.Tok.{Tok, sign_of, level_of}
+use Rattle.gr_expressions.specs.Tok.{Tok, sign_of, level_of}
 use Rattle.gr_print.specs.Unplaced.{nowhere, unplaced_name, unplaced_number}
 use Rattle.gr_print.specs.Pieces.{Piece, Layout, name, number, key, sign, object_tok}
 use Rattle.gr_print.specs.Layout.{Shown, behind, listed, names, numbers, shown, below, bracketed, left_level, whole, expr, args, reducer, call, right_side, start, started, range, assignment, line, lines, block, else_part, stmt, item, program}

@@ -6,7 +6,7 @@ use Rattle.gr_syntax.specs.declared.syntax.Program.{Program}
 use Rattle.gr_text.specs.declared.token.Token.{Token}
 use Rattle.gr_text.specs.declared.token.TokenKind.TheVariants as kinds
 use Rattle.gr_text.specs.Text.{token_at}
-use Rattle.gr_parse.specs.Tok.{Tok, toks, Toks}
+use Rattle.gr_expressions.specs.Tok.{Tok, toks, Toks}
 use Rattle.gr_parse.specs.Grammar.{IsProgram}
 use Rattle.gr_print.specs.Unplaced.{nowhere, unplaced_tok, unplaced_item, SameButForPlaces}
 use Rattle.gr_print.specs.Pieces.{Layout}

@@ -16,7 +16,7 @@ use Rattle.gr_syntax.specs.declared.syntax.Stmt.TheOpen.{Stmt-F}
 use Rattle.gr_syntax.specs.declared.syntax.Stmt.TheFolds.{fold-roll-Stmt}
 use Rattle.gr_text.specs.declared.token.Keyword.TheVariants as k
 use Rattle.gr_text.specs.declared.token.Sign.TheVariants as s
-use Rattle.gr_parse.specs.Tok.{level_of}
+use Rattle.gr_expressions.specs.Tok.{level_of}
 use Rattle.gr_print.specs.Pieces.{Piece, Layout, name, number, sign, key}
 use Rattle.gr_print.specs.Layout.{Shown, shown, expr_step, below, bracketed, joined, expr, call, block, else_part, assignment, start, started, range, stmt, stmt_step}
 

@@ -17,7 +17,7 @@ use Rattle.gr_syntax.specs.declared.syntax.Item.{Item}
 use Rattle.gr_syntax.specs.declared.syntax.Item.TheVariants as items
 use Rattle.gr_text.specs.declared.token.Keyword.TheVariants as k
 use Rattle.gr_text.specs.declared.token.Sign.TheVariants as s
-use Rattle.gr_parse.specs.Tok.{level_of}
+use Rattle.gr_expressions.specs.Tok.{level_of}
 use Rattle.gr_print.specs.Unplaced.{unplaced_name, unplaced_number, unplaced_expr, unplaced_call, unplaced_right, unplaced_how, unplaced_stmt, unplaced_item}
 use Rattle.gr_print.specs.Pieces.{Piece, Layout, name, number, key, sign, object}
 use Rattle.gr_print.specs.Layout.{Shown, listed, names, numbers, shown, below, joined, whole, expr, exprs, args, reducer, call, right_side, start, started, range, assignment, line, lines, block, else_part, stmt, item, task, program}

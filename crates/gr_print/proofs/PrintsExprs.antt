@@ -9,9 +9,9 @@ use Rattle.gr_syntax.specs.declared.syntax.BinOp.TheVariants as op
 use Rattle.gr_syntax.specs.declared.syntax.Expr.{Expr}
 use Rattle.gr_syntax.specs.declared.syntax.Expr.TheVariants as e
 use Rattle.gr_text.specs.declared.token.Sign.TheVariants as s
-use Rattle.gr_parse.specs.Tok.{Tok, sign_of, level_of, Toks}
-use Rattle.gr_parse.specs.declared.limits.TheConstants.{LOOSEST}
-use Rattle.gr_parse.specs.Grammar.{IsUnary, IsLevel, IsComparison, IsExpr}
+use Rattle.gr_expressions.specs.Tok.{Tok, sign_of, level_of, Toks}
+use Rattle.gr_expressions.specs.declared.limits.TheConstants.{LOOSEST}
+use Rattle.gr_expressions.specs.Expressions.{IsUnary, IsLevel, IsComparison, IsExpr}
 use Rattle.gr_print.specs.Unplaced.{unplaced_name, unplaced_number, unplaced_tok, unplaced_expr}
 use Rattle.gr_print.specs.Pieces.{Piece, Layout, name, number, sign}
 use Rattle.gr_print.specs.Layout.{Shown, shown, below, bracketed, joined, left_level, expr}

@@ -10,9 +10,10 @@ use Rattle.gr_syntax.specs.declared.syntax.Item.TheVariants as items
 use Rattle.gr_text.specs.declared.token.Keyword.{Keyword}
 use Rattle.gr_text.specs.declared.token.Keyword.TheVariants as k
 use Rattle.gr_text.specs.declared.token.Sign.TheVariants as s
-use Rattle.gr_parse.specs.Tok.{Tok, Toks}
+use Rattle.gr_expressions.specs.Tok.{Tok, Toks}
+use Rattle.gr_expressions.specs.Expressions.{IsName, IsNumber}
 use Rattle.gr_parse.specs.declared.limits.TheConstants.{MAX_NESTING}
-use Rattle.gr_parse.specs.Grammar.{IsName, IsNumber, IsItem, IsProgram}
+use Rattle.gr_parse.specs.Grammar.{IsItem, IsProgram}
 use Rattle.gr_print.specs.Unplaced.{nowhere, unplaced_name, unplaced_number, unplaced_tok, unplaced_stmt, unplaced_item}
 use Rattle.gr_print.specs.Pieces.{Piece, Layout, name, number, key, sign}
 use Rattle.gr_print.specs.Layout.{names, numbers, block, stmt, item, input, task, program}

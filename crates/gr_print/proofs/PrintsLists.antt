@@ -14,8 +14,8 @@ use Rattle.gr_text.specs.declared.token.Keyword.TheVariants as k
 use Rattle.gr_text.specs.declared.token.Sign.TheVariants as s
 use Rattle.gr_text.specs.declared.token.TokenKind.TheVariants as kinds
 use Rattle.gr_text.specs.Text.{IsToken}
-use Rattle.gr_parse.specs.Tok.{Tok, Toks}
-use Rattle.gr_parse.specs.Grammar.{call_of, IsExpr, IsName, IsNumber, IsArgs, IsObject, IsOperation, IsCall}
+use Rattle.gr_expressions.specs.Tok.{Tok, Toks}
+use Rattle.gr_expressions.specs.Expressions.{call_of, IsExpr, IsName, IsNumber, IsArgs, IsObject, IsOperation, IsCall}
 use Rattle.gr_print.specs.Unplaced.{nowhere, unplaced_name, unplaced_number, unplaced_tok, unplaced_expr, unplaced_call}
 use Rattle.gr_print.specs.Pieces.{Piece, Layout, name, number, sign, object_tok}
 use Rattle.gr_print.specs.Layout.{behind, listed, expr, args, call}

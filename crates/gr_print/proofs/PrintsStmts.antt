@@ -12,8 +12,9 @@ use Rattle.gr_syntax.specs.declared.syntax.Stmt.{Stmt}
 use Rattle.gr_syntax.specs.declared.syntax.Stmt.TheVariants as st
 use Rattle.gr_text.specs.declared.token.Keyword.TheVariants as k
 use Rattle.gr_text.specs.declared.token.Sign.TheVariants as s
-use Rattle.gr_parse.specs.Tok.{Tok, Toks}
-use Rattle.gr_parse.specs.Grammar.{IsExpr, IsArgs, IsCall, IsRight, IsAssignment, IsHow, IsStmt, IsBlock, IsStmts}
+use Rattle.gr_expressions.specs.Tok.{Tok, Toks}
+use Rattle.gr_expressions.specs.Expressions.{IsExpr, IsArgs, IsCall}
+use Rattle.gr_parse.specs.Grammar.{IsRight, IsAssignment, IsHow, IsStmt, IsBlock, IsStmts}
 use Rattle.gr_print.specs.Unplaced.{unplaced_name, unplaced_tok, unplaced_expr, unplaced_call, unplaced_right, unplaced_how, unplaced_stmt}
 use Rattle.gr_print.specs.Pieces.{Piece, Layout, key, sign}
 use Rattle.gr_print.specs.Layout.{names, expr, args, call, right_side, start, started, range, lines, block, stmt}

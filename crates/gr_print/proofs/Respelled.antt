@@ -8,8 +8,8 @@ use Rattle.gr_syntax.specs.declared.syntax.Name.{Name}
 use Rattle.gr_syntax.specs.declared.syntax.Number.{Number}
 use Rattle.gr_text.specs.declared.token.Keyword.{Keyword}
 use Rattle.gr_text.specs.declared.token.Sign.{Sign}
-use Rattle.gr_parse.specs.Tok.{Tok, heap_name, Toks}
-use Rattle.gr_parse.specs.Grammar.{IsObject}
+use Rattle.gr_expressions.specs.Tok.{Tok, heap_name, Toks}
+use Rattle.gr_expressions.specs.Expressions.{IsObject}
 use Rattle.gr_print.specs.Unplaced.{nowhere, unplaced_name, unplaced_number, unplaced_tok}
 use Rattle.gr_print.specs.Pieces.{object_tok}
 

@@ -1,6 +1,6 @@
 -- The tokens of a layout.
 use Rattle.std.proofs.Common.{◌≡◌, ℕ, zero, suc, [], ◌∷◌, ◌++◌, replicate, refl, sym, ap, ◌∙◌, append_assoc}
-use Rattle.gr_parse.specs.Tok.{Toks}
+use Rattle.gr_expressions.specs.Tok.{Toks}
 use Rattle.gr_print.specs.Pieces.{Piece, Layout}
 use Rattle.gr_print.specs.Layout.{line}
 

@@ -12,7 +12,7 @@ use Rattle.gr_text.specs.declared.token.TokenKind.{TokenKind}
 use Rattle.gr_text.specs.declared.token.TokenKind.TheVariants as kinds
 use Rattle.gr_text.specs.Text.{Text, IsToken, Fits, Reads, IsTokenOf, token_at}
 use Rattle.gr_text.proofs.Well.{well}
-use Rattle.gr_parse.specs.Tok.{tok_of, tok_of_kind, toks}
+use Rattle.gr_expressions.specs.Tok.{tok_of, tok_of_kind, toks}
 use Rattle.gr_parse.specs.Grammar.{IsProgramOf}
 use Rattle.gr_parse.proofs.Whole.{Cut, cut, toks_more, toks_none}
 use Rattle.gr_print.specs.Unplaced.{SameButForPlaces}

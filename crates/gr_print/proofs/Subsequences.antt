@@ -1,7 +1,7 @@
 -- Lists that are others with some elements left out.
 use Rattle.std.proofs.Common.{◌≡◌, ℕ, ◌+◌, ◌≤◌, Bool, true, false, cond, if◌then◌else◌, List, [], ◌∷◌, ◌++◌, map, refl, ap, arith}
 use Rattle.gr_text.specs.declared.token.Sign.TheVariants as s
-use Rattle.gr_parse.specs.Tok.{Tok, is_sign, Toks}
+use Rattle.gr_expressions.specs.Tok.{Tok, is_sign, Toks}
 use Rattle.gr_print.specs.Unplaced.{unplaced_tok}
 use Rattle.gr_print.specs.Printed.{IsSubsequence, brackets}
 

@@ -17,7 +17,7 @@ use Rattle.gr_syntax.specs.declared.syntax.Stmt.{Stmt}
 use Rattle.gr_syntax.specs.declared.syntax.Stmt.TheVariants as st
 use Rattle.gr_text.specs.declared.token.Sign.TheVariants as s
 use Rattle.gr_text.specs.Spelling.{sign_bytes}
-use Rattle.gr_parse.specs.Tok.{Tok, sign_of, level_of}
+use Rattle.gr_expressions.specs.Tok.{Tok, sign_of, level_of}
 use Rattle.gr_print.specs.Unplaced.{nowhere, unplaced_name}
 use Rattle.gr_print.specs.Pieces.{Piece, Layout, token_bytes, piece_bytes, bytes_of, sign, object}
 use Rattle.gr_print.specs.Layout.{Shown, names, numbers, shown, below, bracket, joined, left_level, expr, exprs, args, reducer, call, right_side, let_word, assignment, start, started, range, stmt, line, lines, block, else_part, input, task}

@@ -26,7 +26,7 @@ use Rattle.gr_text.proofs.Longest.{IsOther, sign_front}
 use Rattle.gr_text.proofs.Runs.{and_first}
 use Rattle.gr_text.proofs.Signs.{sign_head, some_sign}
 use Rattle.gr_text.proofs.Words.{keyword_head}
-use Rattle.gr_parse.specs.Tok.{Tok, tok_of, tok_of_kind, toks, Toks}
+use Rattle.gr_expressions.specs.Tok.{Tok, tok_of, tok_of_kind, toks, Toks}
 use Rattle.gr_parse.proofs.Whole.{toks_more, toks_none}
 use Rattle.gr_print.specs.Unplaced.{unplaced_tok}
 use Rattle.gr_print.specs.Pieces.{Piece, Layout, token_bytes, bytes_of}

@@ -20,8 +20,8 @@ use Rattle.gr_syntax.specs.declared.syntax.Program.{Program}
 use Rattle.gr_text.specs.declared.token.Keyword.TheVariants as keywords
 use Rattle.gr_text.specs.declared.token.Sign.{Sign}
 use Rattle.gr_text.specs.declared.token.Sign.TheVariants as signs
-use Rattle.gr_parse.specs.Tok.{sign_of, level_of}
-use Rattle.gr_parse.specs.declared.limits.TheConstants.{LOOSEST}
+use Rattle.gr_expressions.specs.Tok.{sign_of, level_of}
+use Rattle.gr_expressions.specs.declared.limits.TheConstants.{LOOSEST}
 use Rattle.gr_print.specs.Pieces.{Piece, Layout, bytes_of, name, number, key, sign, semicolon, heap, object}
 
 -- ---- lists

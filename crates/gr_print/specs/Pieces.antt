@@ -8,7 +8,7 @@ use Rattle.gr_text.specs.declared.token.Keyword.{Keyword}
 use Rattle.gr_text.specs.declared.token.Sign.{Sign}
 use Rattle.gr_text.specs.declared.token.Sign.TheVariants as signs
 use Rattle.gr_text.specs.Spelling.{keyword_bytes, sign_bytes}
-use Rattle.gr_parse.specs.Tok.{Tok}
+use Rattle.gr_expressions.specs.Tok.{Tok}
 use Rattle.gr_print.specs.Unplaced.{nowhere, unplaced_name, unplaced_number}
 
 -- A token without its place, a blank, or the end of a line.

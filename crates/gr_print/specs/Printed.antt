@@ -8,7 +8,7 @@ use Rattle.gr_text.specs.declared.token.Token.{Token}
 use Rattle.gr_text.specs.declared.token.TokenKind.TheVariants as kinds
 use Rattle.gr_syntax.specs.declared.limits.TheConstants.{MAX_NAME}
 use Rattle.gr_text.specs.Text.{IsToken, Reads}
-use Rattle.gr_parse.specs.Tok.{Tok, is_sign, toks, Toks}
+use Rattle.gr_expressions.specs.Tok.{Tok, is_sign, toks, Toks}
 use Rattle.gr_parse.specs.Grammar.{IsProgram, IsProgramOf}
 use Rattle.gr_print.specs.Unplaced.{unplaced_item, unplaced_tok, SameButForPlaces}
 

@@ -20,7 +20,7 @@ use Rattle.gr_syntax.specs.declared.syntax.Stmt.TheVariants as stmts
 use Rattle.gr_syntax.specs.declared.syntax.Item.{Item}
 use Rattle.gr_syntax.specs.declared.syntax.Item.TheVariants as items
 use Rattle.gr_syntax.specs.declared.syntax.Program.{Program}
-use Rattle.gr_parse.specs.Tok.{Tok}
+use Rattle.gr_expressions.specs.Tok.{Tok}
 
 -- The one place that stands for every place.
 abbrev pub nowhere : Place

@@ -1,11 +1,11 @@
 //! Expressions as text.
 ghost use Rattle.std.specs.Prelude.{◌≡◌, ◌++◌, ◌≤◌, OnOk, string_bytes};
-ghost use Rattle.gr_parse.specs.Tok as grammar;
-ghost use Rattle.gr_parse.specs.declared.limits.TheConstants.{LOOSEST};
+ghost use Rattle.gr_expressions.specs.Tok as grammar;
+ghost use Rattle.gr_expressions.specs.declared.limits.TheConstants.{LOOSEST};
 ghost use Rattle.gr_print.specs.Layout as spec;
 ghost use Rattle.gr_print.specs.Pieces.{bytes_of};
 
-use gr_parse::{LOOSEST, level_of};
+use gr_expressions::{LOOSEST, level_of};
 use gr_syntax::{BinOp, Expr};
 use gr_text::Sign;
 use std::alloc::AllocError;

@@ -4,7 +4,7 @@ ghost use Rattle.std.specs.Prelude.{◌≡◌, ℕ, List, Ok};
 ghost use Rattle.gr_syntax.specs.declared.syntax.Program.{Program};
 ghost use Rattle.gr_text.specs.Text.{Reads};
 ghost use Rattle.gr_text.specs.declared.token.Token.{Token};
-ghost use Rattle.gr_parse.specs.Tok.{toks};
+ghost use Rattle.gr_expressions.specs.Tok.{toks};
 ghost use Rattle.gr_parse.specs.Grammar.{IsProgramOf};
 ghost use Rattle.gr_print.specs.Printed.{IsSpelled, IsSpelling, ReadsBack};
 

@@ -20,7 +20,7 @@ use Rattle.gr_text.specs.declared.token.TokenKind.{TokenKind}
 use Rattle.gr_text.specs.declared.token.TokenKind.TheVariants as kind
 use Rattle.gr_text.proofs.Named.{named_token}
 use Rattle.gr_text.proofs.Well.{well}
-use Rattle.gr_parse.specs.Tok.{Tok, tok_of, tok_of_kind, tok_of_word, toks, Toks}
+use Rattle.gr_expressions.specs.Tok.{Tok, tok_of, tok_of_kind, tok_of_word, toks, Toks}
 use Rattle.gr_parse.specs.Grammar.{IsItem, IsProgramOf}
 use Rattle.gr_parse.proofs.Whole.{Cut, cut}
 use Rattle.gr_hist.specs.Naming.{IsNamed}

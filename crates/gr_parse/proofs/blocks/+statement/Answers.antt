@@ -4,10 +4,11 @@ use Rattle.gr_syntax.specs.declared.syntax.Stmt.{Stmt}
 use Rattle.gr_text.specs.declared.token.Sign.TheVariants as signs
 use Rattle.gr_meets.specs.Parsers as read
 use Rattle.gr_meets.proofs.Runs.{run_end, run_go}
-use Rattle.gr_parse.specs.TokWords as tok
+use Rattle.gr_expressions.specs.TokWords as tok
+use Rattle.gr_expressions.proofs.Steps.{plenty_is}
 use Rattle.gr_parse.specs.ParsingWords as spec
-use Rattle.gr_parse.proofs.Steps.{plenty_is, statement_named, statement_other, block_zero, block_step}
-use Rattle.gr_parse.proofs.Shorter.{statement_takes}
+use Rattle.gr_parse.proofs.Steps.{statement_named, statement_other, block_zero, block_step}
+use Rattle.gr_parse.proofs.Takes.{statement_takes}
 use Rattle.gr_parse.proofs.blocks.+statement.Goals as goal
 
 pub statement-returns-in-Some : goal.statement-returns-in-Some

@@ -1,7 +1,7 @@
 use Rattle.std.proofs.Common.{◌≡◌, ℕ, ◌<◌, ◌+◌, ◌*◌, ◌^◌, [], length}
 use Rattle.gr_text.specs.declared.token.Sign.TheVariants as signs
 use Rattle.gr_meets.specs.Parsers as read
-use Rattle.gr_parse.specs.TokWords as tok
+use Rattle.gr_expressions.specs.TokWords as tok
 use Rattle.gr_parse.specs.ParsingWords as spec
 use Rattle.gr_parse.proofs.blocks.+statement.Given as goal
 

@@ -1,7 +1,7 @@
 use Rattle.std.proofs.Common.{sym, ap, ◌∙◌, subst, ◌-◌, ◌<◌, ◌^◌, List, length, take, arith}
 use Rattle.gr_text.specs.declared.token.Token.{Token}
-use Rattle.gr_parse.specs.Tok.{toks}
-use Rattle.gr_parse.specs.SoundWords.{AreSound}
+use Rattle.gr_expressions.specs.Tok.{toks}
+use Rattle.gr_expressions.specs.SoundWords.{AreSound}
 use Rattle.gr_parse.specs.ReportsWords.{IsWithin, Reports, Stands}
 use Rattle.gr_parse.proofs.Reported.{body_sound, gave_stop, gave_items, reported_found, reported_only, stop_within, stop_only, stop_says}
 use Rattle.gr_parse.proofs.Shaped.{program_fits}

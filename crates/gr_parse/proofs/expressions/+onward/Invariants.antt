@@ -1,4 +1,0 @@
-use Rattle.gr_parse.proofs.expressions.+onward.Given as goal
-
-abbrev pub decreases-onward : goal.decreases-onward
-decreases-onward l = l.below
