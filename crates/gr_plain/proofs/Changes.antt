@@ -22,9 +22,10 @@ use Rattle.gr_lang.specs.Objects.{call}
 use Rattle.gr_lang.specs.Effects.{nothing}
 use Rattle.gr_lang.specs.States.{Mode, going, at_loop, ended, trapped, State, Task, Scope, Range, has_ended, is_going, is_at_loop, innermost, child, left}
 use Rattle.gr_lang.specs.Steps.{step, goes_on, has_core, is_new, call_step, spawn_step, finish_step, loop_step, begin_step, begin_at, begin_in, pass_from, arrive_step, end_step, trap_step, over_step}
-use Rattle.gr_plain.specs.CountWords.{change_of, begins_in, ends_in}
-use Rattle.gr_plain.specs.StackView.{top_of}
-use Rattle.gr_plain.specs.declared.counts.Change.TheVariants as c
+use Rattle.gr_tables.specs.Changes.{begins_in, ends_in}
+use Rattle.gr_plain.specs.CountWords.{change_of}
+use Rattle.gr_tables.specs.Stacks.{top_of}
+use Rattle.gr_tables.specs.declared.counts.Change.TheVariants as c
 use Rattle.gr_plain.proofs.Recounts.{Recount, on_task, on_going, on_when, kept, added, taken, still_new, goes, and_second, none_of}
 
 -- A task in the place of one in the same scope, where neither has ended, in a state with as many scopes.

@@ -13,11 +13,13 @@ use Rattle.gr_lang.specs.Openings.{target_of}
 use Rattle.gr_lang.specs.States.{State, Task, main_id, opening_state, child, left, is_at_loop, is_going}
 use Rattle.gr_lang.specs.Steps.{step}
 use Rattle.gr_valid.specs.Work.{OpensValid, StepsValid, WorkIsDirect, CanBePassed, IsInnermost, has_task, has_index, works_in}
-use Rattle.gr_plain.specs.CountWords.{CanChange, IsCounted, change_of, changed, is_work_in, unended_of}
+use Rattle.gr_tables.specs.Changes.{CanChange, changed}
+use Rattle.gr_plain.specs.CountWords.{IsCounted, change_of, is_work_in, unended_of}
 use Rattle.gr_plain.specs.Held.{Held, stepped, with_state}
-use Rattle.gr_plain.specs.DueWords.{due_pass, is_arrive, is_blocked}
-use Rattle.gr_plain.specs.StackView.{top_of}
-use Rattle.gr_plain.specs.declared.counts.Change.{Change}
+use Rattle.gr_tables.specs.Dues.{is_arrive}
+use Rattle.gr_plain.specs.DueWords.{due_pass, is_blocked}
+use Rattle.gr_tables.specs.Stacks.{top_of}
+use Rattle.gr_tables.specs.declared.counts.Change.{Change}
 use Rattle.gr_plain.proofs.Tallies.{any-count}
 use Rattle.gr_plain.proofs.Recounts.{added}
 use Rattle.gr_plain.proofs.Numbers.{numbers}

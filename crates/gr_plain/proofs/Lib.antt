@@ -1,11 +1,9 @@
-pub mod Absent
-pub mod Begins
 pub mod Histories
 pub mod Printed
-pub mod Zeros
 pub mod Tallies
 pub mod Recounts
 pub mod Changes
 pub mod Numbers
 pub mod Kept
+pub mod Zeros
 pub mod Sizes

@@ -15,10 +15,11 @@ use Rattle.gr_lang.specs.States.{State, Task, Scope, Mode, going, at_loop, ended
 use Rattle.gr_lang.specs.Steps.{step, if_going, spawn_step}
 use Rattle.gr_valid.specs.Valid.{IsValid, IsOpen, AreOpened}
 use Rattle.gr_valid.specs.Work.{StepsValid, works_in}
-use Rattle.gr_plain.specs.CountWords.{begins_in, ends_in, CanChange, IsCounted, change_of, changed, unended_of}
-use Rattle.gr_plain.specs.StackView.{top_of}
-use Rattle.gr_plain.specs.declared.counts.Change.{Change}
-use Rattle.gr_plain.specs.declared.counts.Change.TheVariants as c
+use Rattle.gr_tables.specs.Changes.{begins_in, ends_in, CanChange, changed}
+use Rattle.gr_plain.specs.CountWords.{IsCounted, change_of, unended_of}
+use Rattle.gr_tables.specs.Stacks.{top_of}
+use Rattle.gr_tables.specs.declared.counts.Change.{Change}
+use Rattle.gr_tables.specs.declared.counts.Change.TheVariants as c
 use Rattle.gr_plain.proofs.Tallies.{count-le-len}
 use Rattle.gr_plain.proofs.Recounts.{Recount, on_task, on_going, goes}
 use Rattle.gr_plain.proofs.Changes.{recounts}

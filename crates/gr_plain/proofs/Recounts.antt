@@ -12,8 +12,8 @@ use Rattle.gr_lang.specs.States.{Mode, going, at_loop, ended, trapped, State, Ta
 use Rattle.gr_lang.specs.Steps.{of_task, when, is_new}
 use Rattle.gr_valid.specs.Work.{works_in}
 use Rattle.gr_plain.specs.CountWords.{unended_of}
-use Rattle.gr_plain.specs.declared.counts.Change.{Change}
-use Rattle.gr_plain.specs.declared.counts.Change.TheVariants as c
+use Rattle.gr_tables.specs.declared.counts.Change.{Change}
+use Rattle.gr_tables.specs.declared.counts.Change.TheVariants as c
 use Rattle.gr_plain.proofs.Tallies.{count_in, count-insert}
 
 -- What a change adds to the scope's number, takes from it, and adds to the scopes.

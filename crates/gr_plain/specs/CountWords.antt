@@ -1,5 +1,5 @@
 -- The number of tasks of each scope that haven't ended, and what an entry changes in these numbers.
-use Rattle.std.specs.Prelude.{◌≡◌, ℕ, ◌+◌, ◌-◌, ◌<◌, ◌^◌, Bool, ◌||◌, nat_lt, List, [], ◌∷◌, ◌++◌, length, slice_index, slice_set, Option, Some, None}
+use Rattle.std.specs.Prelude.{◌≡◌, ℕ, Bool, ◌||◌, nat_lt, List, length, slice_index, Option}
 use Rattle.std.specs.Option.{option_map, option_and_then}
 use Rattle.std.specs.List.{count_by}
 use Rattle.std.specs.FinMap as fin
@@ -9,9 +9,10 @@ use Rattle.gr_syntax.specs.declared.syntax.Program.{Program}
 use Rattle.gr_lang.specs.States.{State, Task, innermost, id_cmp}
 use Rattle.gr_valid.specs.Valid.{IsValid}
 use Rattle.gr_valid.specs.Work.{has_index, works_in}
-use Rattle.gr_plain.specs.StackView.{top_of}
-use Rattle.gr_plain.specs.declared.counts.Change.{Change}
-use Rattle.gr_plain.specs.declared.counts.Change.TheVariants as change
+use Rattle.gr_tables.specs.Changes.{begins_in, ends_in}
+use Rattle.gr_tables.specs.Stacks.{top_of}
+use Rattle.gr_tables.specs.declared.counts.Change.{Change}
+use Rattle.gr_tables.specs.declared.counts.Change.TheVariants as change
 
 -- How many of these tasks stand in the scope and haven't ended.
 abbrev pub unended_of : fin.FinMap id_cmp Task → ℕ → ℕ
@@ -27,15 +28,6 @@ pub record IsCounted (program : Program) (state : State) (counts : List ℕ) : T
 abbrev pub is_work_in : List ℕ → State → ℕ → Bool
 is_work_in counts state scope = nat_lt 0 (slice_index counts scope) || has_index state scope
 
--- A task begins, or ends, in the scope, if there is one.
-abbrev pub begins_in : Option ℕ → Change
-begins_in None = change.Stays
-begins_in (Some scope) = change.Begins scope
-
-abbrev pub ends_in : Option ℕ → Change
-ends_in None = change.Stays
-ends_in (Some scope) = change.Ends scope
-
 -- What an entry changes, where it is a step: a spawned task stands in the innermost scope of the one that spawns it, and a task of a loop in the loop's scope.
 abbrev pub change_of : State → Entry → Change
 change_of state (entry.Spawn id how target args child) = begins_in (option_map innermost (fin.get state.tasks id))
@@ -44,16 +36,3 @@ change_of state (entry.End id) = ends_in (option_map (λ task. task.scope) (fin.
 change_of state (entry.Finish id) = change.Opens
 change_of state (entry.Loop id lo hi grain target args) = change.Opens
 change_of state _ = change.Stays
-
--- The numbers after a change.
-abbrev pub changed : Change → List ℕ → List ℕ
-changed change.Stays counts = counts
-changed (change.Begins scope) counts = slice_set counts scope (slice_index counts scope + 1)
-changed (change.Ends scope) counts = slice_set counts scope (slice_index counts scope - 1)
-changed change.Opens counts = counts ++ 0 ∷ []
-
--- The change can be made: its scope is there, and the scope's number stays within 64 bits.
-abbrev pub CanChange : Change → List ℕ → Type 0
-CanChange (change.Begins scope) counts = (scope < length counts) × (slice_index counts scope + 1 < 2 ^ 64)
-CanChange (change.Ends scope) counts = 0 < slice_index counts scope
-CanChange _ counts = Unit {0}

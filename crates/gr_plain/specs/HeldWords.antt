@@ -5,9 +5,9 @@ use Rattle.gr_lang.specs.declared.action.Entry.{Entry}
 use Rattle.gr_lang.specs.declared.action.TaskId.{TaskId}
 use Rattle.gr_lang.specs.Objects.{Objects}
 use Rattle.gr_lang.specs.States.{Range, Scope, Task, id_cmp}
-use Rattle.gr_plain.specs.declared.tasks.Turn.{Turn}
+use Rattle.gr_tables.specs.declared.tasks.Turn.{Turn}
 use Rattle.gr_plain.specs.Held.{Held, stepped, with_state}
-use Rattle.gr_plain.specs.TaskView.{changed_at, turned}
+use Rattle.gr_tables.specs.Turns.{changed_at, turned}
 
 abbrev pub with_objects : Held → Objects → Held
 with_objects held objects = with_state held (record held.state { objects = objects })

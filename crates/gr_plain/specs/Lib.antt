@@ -3,9 +3,6 @@ pub mod Laws
 pub mod PrintRows
 -- For proofs and private functions.
 pub mod SizeWords
-pub mod StackView
-pub mod ScopeView
-pub mod TaskView
 pub mod DueWords
 pub mod CountWords
 pub mod HeldWords

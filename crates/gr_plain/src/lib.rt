@@ -1,15 +1,10 @@
 //! The meaning of a program on one plain memory, as a machine that takes the entries of a history.
 #![tactic(auto)]
 
-mod counts;
-mod dues;
 mod laws;
 mod opening;
 mod plain;
 mod plain_state;
-mod scopes;
-mod tasks;
-mod word_stack;
 
 pub use laws::{after_one_more, seven_is_printed};
 pub use plain::{Plain, StepError};

@@ -4,10 +4,10 @@ ghost use Rattle.gr_plain.specs.CountWords.{IsCounted, is_work_in as is_work_in_
 ghost use Rattle.gr_plain.specs.DueWords.{is_blocked as is_blocked_by};
 ghost use Rattle.gr_plain.specs.Held.{entry_due, opening_held, stepped};
 
-use crate::counts::{make, number_in};
 use crate::plain_state::PlainState;
 use gr_accept::Accepted;
 use gr_lang::{Entry, TaskId};
+use gr_tables::{change_numbers, number_in};
 use gr_valid::{states_stay_valid, work_is_direct};
 use std::alloc::{AllocError, Global};
 use std::marker::Model;
@@ -111,7 +111,7 @@ fn take(
     states_stay_valid();
     // Each number is at most the number of tasks, which fits 64 bits.
     let _ = held.task_count();
-    make(unended, change)?;
+    change_numbers(unended, change)?;
     Ok(())
 }
 

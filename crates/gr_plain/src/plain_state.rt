@@ -8,22 +8,22 @@ ghost use Rattle.gr_lang.specs.Steps.{is_new as is_new_id};
 ghost use Rattle.gr_plain.specs.Held.{entry_due, opening_held, stepped};
 ghost use Rattle.gr_plain.specs.HeldWords.{IsRefused, after_turn, new_scope, with_objects, with_scope, with_scopes, with_tasks};
 ghost use Rattle.gr_plain.specs.DueWords.{begin_args, due_begin, due_call, due_end, due_finish, due_loop, due_pass, due_spawn, due_trap, is_blocked, loop_scope};
-ghost use Rattle.gr_plain.specs.ScopeView.{begun_at, range_of};
+ghost use Rattle.gr_tables.specs.Scopes.{begun_at, range_of};
 ghost use Rattle.gr_plain.specs.CountWords.{change_of};
-ghost use Rattle.gr_plain.specs.StackView.{top_of};
+ghost use Rattle.gr_tables.specs.Stacks.{top_of};
 ghost use Rattle.gr_valid.specs.Work.{has_index};
 
-use crate::counts::Change;
-use crate::dues::{call_in, has_core, is_arrive, is_end, is_finish, is_loop, is_spawn, is_trap};
 use crate::opening::open_memory;
 use crate::plain::StepError;
-use crate::scopes::{RangeRow, ScopeRow, begin};
-use crate::tasks::{Row, Tasks, Turn};
 use gr_accept::Accepted;
 use gr_lang::{Action, Entry, How, Op, Reply, TaskId, TrapKind, Words};
 use gr_memory::{Keys, Memory};
 use gr_steps::Table;
 use gr_syntax::Text;
+use gr_tables::{
+    Change, RangeRow, Row, ScopeRow, Tasks, Turn, begin_index, call_in, has_core, is_arrive,
+    is_end, is_finish, is_loop, is_spawn, is_trap,
+};
 use std::alloc::{AllocError, Global};
 use std::marker::Model;
 
@@ -132,7 +132,7 @@ impl<'a> PlainState<'a> {
         ensures { OnOk result (self.new
             ≡ with_scopes self.old (begun_at self.old.state.scopes scope index)) }
     {
-        begin(&mut self.scopes, scope, index)
+        begin_index(&mut self.scopes, scope, index)
     }
 
     fn apply(&mut self, op: Op) -> Result<(), AllocError>

@@ -1,4 +1,4 @@
--- What the row of a task stands for, and what a turn makes of a task.
+-- What a turn makes of a task, and of the tasks.
 use Rattle.std.specs.Prelude.{ℕ, Bool, ◌&&◌, if◌then◌else◌, ◌∷◌, Option, Some, None}
 use Rattle.std.specs.Option.{option_map_or}
 use Rattle.std.specs.FinMap as fin
@@ -7,21 +7,9 @@ use Rattle.gr_lang.specs.declared.action.TaskId.{TaskId}
 use Rattle.gr_lang.specs.Effects.{nothing}
 use Rattle.gr_lang.specs.States as state
 use Rattle.gr_lang.specs.Steps.{goes_on}
-use Rattle.gr_plain.specs.declared.tasks.Row.TheInside.{Inside}
-use Rattle.gr_plain.specs.declared.tasks.Mode.{Mode}
-use Rattle.gr_plain.specs.declared.tasks.Mode.TheVariants as mode
-use Rattle.gr_plain.specs.declared.tasks.Turn.{Turn}
-use Rattle.gr_plain.specs.declared.tasks.Turn.TheVariants as turn
-use Rattle.gr_plain.specs.StackView.{under_top}
-
-abbrev pub mode_of : Mode → state.Mode
-mode_of mode.Going = state.going
-mode_of mode.AtLoop = state.at_loop
-mode_of mode.Ended = state.ended
-mode_of mode.Trapped = state.trapped
-
-abbrev pub task_of : Inside → state.Task
-task_of row = record { scope = row.scope; action = row.action; running = row.running; opened = row.opened; mode = mode_of row.mode }
+use Rattle.gr_tables.specs.declared.tasks.Turn.{Turn}
+use Rattle.gr_tables.specs.declared.tasks.Turn.TheVariants as turn
+use Rattle.gr_tables.specs.Stacks.{under_top}
 
 -- A task after its turn.
 abbrev pub turned : Program → ℕ → Turn → state.Task → state.Task

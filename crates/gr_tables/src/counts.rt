@@ -1,6 +1,6 @@
 //! The numbers of tasks that haven't ended, scope by scope, and how an entry changes them.
 ghost use Rattle.std.specs.Prelude.{◌≡◌, ◌+◌, ◌-◌, ◌<◌, ◌^◌, ◌++◌, ◌∷◌, [], OnErr, OnOk, length, slice_index, slice_set};
-ghost use Rattle.gr_plain.specs.CountWords.{CanChange, begins_in, changed, ends_in};
+ghost use Rattle.gr_tables.specs.Changes.{CanChange, begins_in, changed, ends_in};
 
 use std::alloc::AllocError;
 
@@ -65,7 +65,7 @@ fn lower(unended: &mut [u64], scope: u64)
 }
 
 /// Makes the change. An error is want of memory, and then the numbers are as they were.
-pub fn make(unended: &mut Vec<u64>, change: Change) -> Result<(), AllocError>
+pub fn change_numbers(unended: &mut Vec<u64>, change: Change) -> Result<(), AllocError>
     requires { CanChange change unended.old.items }
     ensures ok { OnOk result (unended.new.items ≡ changed change unended.old.items) }
     ensures err { OnErr result (unended.new.items ≡ unended.old.items) }

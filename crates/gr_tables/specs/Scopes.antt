@@ -1,16 +1,13 @@
--- What the rows of the scopes stand for, and what is asked of them.
+-- What is asked of the range of a scope, and the scopes after an index of one has begun.
 use Rattle.std.specs.Prelude.{ℕ, not, ◌&&◌, nat_le, nat_lt, if◌then◌else◌, List, [], ◌∷◌, slice_get, slice_set, Option, Some, None}
 use Rattle.std.specs.Option.{option_map, option_map_or}
 use Rattle.std.specs.FinSet as set
-use Rattle.gr_plain.specs.declared.scopes.RangeRow.{RangeRow}
-use Rattle.gr_plain.specs.declared.scopes.ScopeRow.TheInside.{Inside}
+use Rattle.gr_tables.specs.declared.scopes.RangeRow.{RangeRow}
 use Rattle.gr_lang.specs.States.{Range, Scope}
 
+-- The range that a row stands for.
 abbrev pub range_of : RangeRow → Range
 range_of row = record { lo = row.lo; hi = row.hi; target = row.target; args = row.args; begun = row.begun }
-
-abbrev pub scope_of : Inside → Scope
-scope_of row = record { owner = row.owner; parent = row.parent; range = option_map range_of row.range }
 
 -- The task of the range, where this index is in it and hasn't begun.
 abbrev pub begins_in : Option Range → ℕ → Option ℕ

@@ -1,7 +1,7 @@
 use Rattle.std.proofs.Common.{◌∙◌, sym, ap, length}
 use Rattle.std.specs.FinMap as fin
 use Rattle.gr_lang.proofs.TaskIds.{entries_id}
-use Rattle.gr_plain.proofs.tasks.Tasks.len.Goals as goal
+use Rattle.gr_tables.proofs.tasks.Tasks.len.Goals as goal
 
 pub returns : goal.returns
 returns c =

@@ -1,7 +1,7 @@
 //! The scopes of a run: their owners and parents, and the ranges of loops.
 ghost use Rattle.std.specs.Prelude.{◌≡◌, ◌++◌, IfOk, OnOk};
 ghost use Rattle.gr_lang.specs.States.{range_left};
-ghost use Rattle.gr_plain.specs.ScopeView.{args_of, begin_scope, begins_in, begun_at};
+ghost use Rattle.gr_tables.specs.Scopes.{args_of, begin_scope, begins_in, begun_at};
 
 use gr_lang::{TaskId, Words};
 use gr_memory::Keys;
@@ -37,7 +37,7 @@ impl Model for ScopeRow {
 
     ghost coded = { Prim.hlevel (codes, set.code {R = nat_cmp} coded_ℕ) };
 
-    ghost use Rattle.gr_plain.specs.ScopeView.{scope_of};
+    ghost use Rattle.gr_tables.specs.ScopeView.{scope_of};
 
     ghost view = { scope_of };
 }
@@ -104,7 +104,7 @@ fn push_all(words: &mut Words, more: &[u64]) -> Result<(), AllocError>
 
 /// The index of that scope's range has begun.
 #[tactic(auto, using(crate::proofs::Begins::begins))]
-pub fn begin(scopes: &mut [ScopeRow], scope: u64, index: u64) -> Result<(), AllocError>
+pub fn begin_index(scopes: &mut [ScopeRow], scope: u64, index: u64) -> Result<(), AllocError>
     ensures { OnOk result (scopes.new ≡ begun_at scopes.old scope index) }
 {
     let at = scope as usize;

@@ -5,8 +5,9 @@ ghost use Rattle.std.specs.FinMap as fin;
 ghost use Rattle.std.specs.Option.{option_copied};
 ghost use Rattle.gr_lang.specs.States.{child, id_cmp, innermost, is_at_loop as at_loop_mode, is_going as going_mode};
 ghost use Rattle.gr_lang.specs.Steps.{goes_on as gone_on};
-ghost use Rattle.gr_plain.specs.StackView.{top_of, under_top};
-ghost use Rattle.gr_plain.specs.TaskView.{changed_at, mode_of, scope_if, turned};
+ghost use Rattle.gr_tables.specs.Stacks.{top_of, under_top};
+ghost use Rattle.gr_tables.specs.TaskView.{mode_of};
+ghost use Rattle.gr_tables.specs.Turns.{changed_at, scope_if, turned};
 
 use crate::word_stack::WordStack;
 use gr_lang::{Action, Reply, TaskId};
@@ -61,7 +62,7 @@ impl<'a> Model for Row<'a> {
 
     ghost coded = { Prim.hlevel (codes, stmt.the_row.coded) };
 
-    ghost use Rattle.gr_plain.specs.TaskView.{task_of};
+    ghost use Rattle.gr_tables.specs.TaskView.{task_of};
 
     ghost view = { task_of };
 }

@@ -2,7 +2,7 @@
 ghost use Rattle.std.specs.Prelude.{◌≡◌};
 ghost use Rattle.std.specs.Str.{bytes_eq};
 ghost use Rattle.gr_lang.specs.Steps.{has_core as is_core};
-ghost use Rattle.gr_plain.specs.DueWords as due;
+ghost use Rattle.gr_tables.specs.Dues as due;
 
 use gr_lang::{Action, How, Op, TrapKind, Words};
 

@@ -4,7 +4,7 @@ use Rattle.std.proofs.lemmas.Option.{slice_get-get_or, slice_get_past}
 use Rattle.std.specs.Prelude.{slice_set, slice_index_or}
 use Rattle.std.specs.Option.{option_map_or}
 use Rattle.gr_lang.specs.States.{Scope}
-use Rattle.gr_plain.specs.ScopeView.{begin_scope, begun_at}
+use Rattle.gr_tables.specs.Scopes.{begin_scope, begun_at}
 
 abbrev begun_in : List Scope → ℕ → ℕ → Option Scope → List Scope
 begun_in xs i index o = option_map_or (λ x. slice_set xs i (begin_scope x index)) o xs

@@ -1,6 +1,6 @@
 //! A stack of words.
 ghost use Rattle.std.specs.Prelude.{◌≡◌, ◌∷◌, [], OnOk};
-ghost use Rattle.gr_plain.specs.StackView.{top_of, under_top};
+ghost use Rattle.gr_tables.specs.Stacks.{top_of, under_top};
 
 use std::alloc::{AllocError, Global};
 use std::marker::Model;
@@ -16,7 +16,7 @@ impl Model for WordStack {
 
     ghost Value = { List ℕ };
 
-    ghost use Rattle.gr_plain.specs.StackView.{newest_first};
+    ghost use Rattle.gr_tables.specs.StackView.{newest_first};
 
     ghost view = { λ s. newest_first s.words.items };
 }
