@@ -7,3 +7,4 @@ pub mod Entries
 pub mod Reaches
 pub mod Words
 pub mod Worked
+pub mod Crossing

@@ -19,5 +19,5 @@ pub use instructions::{Instruction, Onward, Way};
 pub use lowering::TaskEntry;
 pub use rows::{instruction_rows, shape_rows, term_rows};
 pub use shapes::{Shape, Shapes};
-pub use shared::instructions_are_shared;
+pub use shared::code_is_shared;
 pub use terms::{Targets, Term, Terms};

@@ -1,14 +1,13 @@
-//! That instructions may be shared with other threads.
-use crate::instructions::Instruction;
-use crate::shapes::Shapes;
+//! That code may be shared with other threads.
+use crate::code::Code;
 
 /// Takes what other threads may own and read.
 fn share<T: Send + Sync>(value: &T) {
     let _ = value;
 }
 
-/// Instructions and shapes may be owned and read by other threads.
-pub fn instructions_are_shared(instruction: &Instruction, shapes: &Shapes) {
-    share(instruction);
-    share(shapes);
+/// Code may be owned and read by other threads, with the program that it borrows: a call of this function
+/// is proved.
+pub fn code_is_shared(code: &Code) {
+    share(code);
 }
