@@ -1,21 +1,21 @@
 -- The first words of a task's locals.
-use Rattle.std.proofs.Common.{◌≡◌, ℕ, zero, suc, ◌-◌, ◌<◌, List, [], ◌∷◌, drop, length, slice_index, ◌++◌, refl, ap, sym, ◌∙◌, append_assoc, arith}
+use Rattle.std.proofs.Common.{◌≡◌, ℕ, suc, ◌-◌, List, [], ◌∷◌, length, take, replicate, refl, ap, arith, length-append, length-take}
+use Rattle.std.proofs.lemmas.List.{length-replicate}
 use Rattle.gr_lang.specs.Next.{given}
 use Rattle.gr_task.specs.TurnWords.{first_of}
 
-first_one : (n : ℕ) (ws : List ℕ) → 0 < n → first_of n ws ≡ slice_index ws 0 ∷ first_of (n - 1) (drop 1 ws)
-first_one zero ws lt = absurd (omega arith)
-first_one (suc n) ws lt = ap (λ k. slice_index ws 0 ∷ first_of k (drop 1 ws)) (omega arith)
-
 pub length-first : (n : ℕ) (ws : List ℕ) → length (first_of n ws) ≡ n
-length-first zero ws = refl
-length-first (suc n) ws = ap suc (length-first n (drop 1 ws))
+length-first n ws = omega (arith, length-append (take n ws) (replicate (n - length ws) 0), length-take n ws, length-replicate {A = ℕ} (n - length ws) 0)
+
+zeros_given : (names : List (List ℕ)) → given names (replicate (length names) 0) ≡ given names []
+zeros_given [] = refl
+zeros_given (n ∷ ns) = ap (λ l. (n, 0) ∷ l) (zeros_given ns)
 
 pub given-first : (names : List (List ℕ)) (ws : List ℕ) → given names (first_of (length names) ws) ≡ given names ws
 given-first [] ws = refl
-given-first (n ∷ ns) [] = ap (λ l. (n, 0) ∷ l) (given-first ns [])
-given-first (n ∷ ns) (w ∷ ws) = ap (λ l. (n, w) ∷ l) (given-first ns ws)
-
-pub first_turn : (xs ys ws rest : List ℕ) (n v : ℕ) → ys ≡ xs ++ v ∷ [] → v ≡ slice_index ws 0 → rest ≡ drop 1 ws → 0 < n → ys ++ first_of (n - 1) rest ≡ xs ++ first_of n ws
-first_turn xs ys ws rest n v e h t lt =
-    rw (e, t) (append_assoc xs (v ∷ []) (first_of (n - 1) (drop 1 ws)) ∙ ap (λ w. xs ++ w ∷ first_of (n - 1) (drop 1 ws)) h ∙ ap (λ l. xs ++ l) (sym (first_one n ws lt)))
+given-first (n ∷ ns) [] =
+    let all : suc (length ns) - 0 ≡ suc (length ns) = omega arith in
+    rw all (zeros_given (n ∷ ns))
+given-first (n ∷ ns) (w ∷ ws) =
+    let same : suc (length ns) - suc (length ws) ≡ length ns - length ws = omega arith in
+    rw same (ap (λ l. (n, w) ∷ l) (given-first ns ws))

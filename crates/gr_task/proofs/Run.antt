@@ -2,7 +2,6 @@
 use Rattle.std.proofs.Common.{◌≡◌, ℕ, ◌==◌, if◌then◌else◌, List, length, length-set, refl, ap, sym, subst, ◌∙◌, slice_get, Option, Some, None}
 use Rattle.std.specs.Option.{option_map_or}
 use Rattle.gr_syntax.specs.Items.{TaskText, tasks_of}
-use Rattle.gr_lang.specs.declared.action.Action.{Action}
 use Rattle.gr_lang.specs.declared.action.Action.TheVariants as action
 use Rattle.gr_lang.specs.Next.{look, pure, acts, start, start_at}
 use Rattle.gr_code.specs.declared.terms.Term.{Term}
@@ -12,7 +11,7 @@ use Rattle.gr_code.specs.declared.instructions.Instruction.{Instruction}
 use Rattle.gr_code.specs.declared.instructions.Instruction.TheVariants as i
 use Rattle.gr_code.specs.Terms.{term_value, put_word}
 use Rattle.gr_code.specs.Points.{Point, Lowered, nowhere, point_at, state_at, first_point}
-use Rattle.gr_code.specs.Instructions.{Agrees, does, printed}
+use Rattle.gr_code.specs.Instructions.{Agrees, does}
 use Rattle.gr_code.proofs.Grows.{begins_same}
 use Rattle.gr_task.specs.TurnWords.{first_of}
 use Rattle.gr_task.proofs.First.{given-first}
@@ -49,10 +48,6 @@ pub branch_words : (code : Lowered) (at one other next to : ℕ) (x : Instructio
 branch_words code at one other next to x r ws w h l is t =
     let same : (point_at code.points (if w == 0 then other else one)).names ≡ (point_at code.points at).names = (subst (λ x. Agrees code.program code.points at x) is h).moves code.points (begins_same code.points) w in
     l ∙ sym (ap length same) ∙ sym (ap (λ k. length (point_at code.points k).names) t)
-
-pub print_looks : (code : Lowered) (at next : ℕ) (x : Instruction) (r : Term) (ws : List ℕ) (action : Action) → Agrees code.program code.points at x → length ws ≡ length (point_at code.points at).names → x ≡ i.Print r next
-    → action ≡ printed (term_value ws r) → look code.program (state_at (point_at code.points at) ws) ≡ acts action
-print_looks code at next x r ws action h l is e = looks_here code at x ws h l ∙ rw is (ap acts (sym e))
 
 starts : (o : Option TaskText) (args : List ℕ) → state_at (option_map_or first_point o nowhere) args ≡ start_at o args
 starts None args = refl

@@ -1,5 +1,5 @@
 -- What one turn of a task does, and the first words of its locals.
-use Rattle.std.specs.Prelude.{◌≡◌, ℕ, zero, suc, Bool, true, false, List, [], ◌∷◌, drop, length, slice_index, Some, None}
+use Rattle.std.specs.Prelude.{◌≡◌, ℕ, ◌-◌, Bool, true, false, List, ◌++◌, length, take, replicate, Some, None}
 use Rattle.gr_lang.specs.Next.{Running, Look, pure, acts}
 use Rattle.gr_code.specs.Points.{Lowered, point_at}
 use Rattle.gr_task.specs.declared.task.Turn.{Turn}
@@ -24,5 +24,4 @@ Turns may_move look old (turn.Acts action) new = (look ≡ acts action) × (new 
 
 -- So many first words; 0 where there are no more.
 abbrev pub first_of : ℕ → List ℕ → List ℕ
-first_of zero words = []
-first_of (suc n) words = slice_index words 0 ∷ first_of n (drop 1 words)
+first_of count words = take count words ++ replicate (count - length words) 0

@@ -1,13 +1,14 @@
 //! The action of an instruction, with evaluated words.
-ghost use Rattle.std.specs.Prelude.{◌≡◌, IfOk};
-ghost use Rattle.gr_lang.specs.Next.{acted, fits as fits_in, named_action as named_action_of};
+ghost use Rattle.std.specs.Prelude.{◌≡◌, false, IfOk};
+ghost use Rattle.gr_lang.specs.Next.{acted, acts, fits as fits_in, named_action as named_action_of};
 ghost use Rattle.gr_lang.specs.Openings.{opening};
-ghost use Rattle.gr_code.specs.Instructions.{how_of as way_of, looped, printed, spawned};
+ghost use Rattle.gr_code.specs.Instructions.{does, how_of as way_of, looped, printed, spawned};
 ghost use Rattle.gr_code.specs.Terms.{term_value, term_values};
+ghost use Rattle.gr_task.specs.TurnWords.{is_pure};
 
 use crate::evaluation::{value_of, values_of};
 use gr_accept::Operation;
-use gr_code::{Code, Term, Terms, Way};
+use gr_code::{Code, Instruction, Term, Terms, Way};
 use gr_lang::{Action, How, Op, TrapKind, Words, op_of};
 use std::alloc::{AllocError, Global};
 
@@ -21,7 +22,7 @@ pub fn divided() -> Action
 }
 
 /// The print of this term's word.
-pub fn print_action(locals: &[u64], value: &Term) -> Action
+fn print_action(locals: &[u64], value: &Term) -> Action
     ensures { result ≡ printed (term_value locals.now value.now) }
 {
     match value_of(locals, value) {
@@ -73,7 +74,7 @@ fn named_action(
 }
 
 /// The call, or its trap.
-pub fn call_action(
+fn call_action(
     alloc: Global,
     code: &Code,
     operation: Option<Operation>,
@@ -106,7 +107,7 @@ fn how_of(locals: &[u64], way: &Way) -> Option<How>
 }
 
 /// The spawn, or its trap. The core is evaluated before the arguments.
-pub fn spawn_action(
+fn spawn_action(
     alloc: Global,
     locals: &[u64],
     way: &Way,
@@ -150,7 +151,7 @@ fn looped_action(alloc: Global, target: u64, words: &[u64]) -> Result<Action, Al
 }
 
 /// The loop, or its trap. A grain of 0 counts as 1.
-pub fn loop_action(
+fn loop_action(
     alloc: Global,
     locals: &[u64],
     target: u64,
@@ -163,5 +164,49 @@ pub fn loop_action(
     match found {
         None => Ok(divided()),
         Some(words) => looped_action(alloc, target, words.as_slice()),
+    }
+}
+
+/// The action of an instruction that is no pure step, or its trap.
+pub fn action_of(
+    alloc: Global,
+    code: &Code,
+    locals: &[u64],
+    instruction: &Instruction,
+) -> Result<Action, AllocError>
+    requires { is_pure (does code.now.program code.now.points instruction.now locals.now) ≡ false }
+    ensures { IfOk result (λ action.
+        does code.now.program code.now.points instruction.now locals.now ≡ acts action) }
+{
+    match instruction {
+        Instruction::Set { .. } => unreachable!(),
+        Instruction::Branch { .. } => unreachable!(),
+        Instruction::Call {
+            operation,
+            object,
+            reducer,
+            args,
+            ..
+        } => {
+            let action = call_action(alloc, code, *operation, *object, *reducer, locals, args)?;
+            Ok(action)
+        }
+        Instruction::Print { value, .. } => Ok(print_action(locals, value)),
+        Instruction::Finish { .. } => Ok(Action::Finish),
+        Instruction::Spawn {
+            way,
+            target,
+            args,
+            ..
+        } => {
+            let action = spawn_action(alloc, locals, way, *target, args)?;
+            Ok(action)
+        }
+        Instruction::Loop { target, args, .. } => {
+            let action = loop_action(alloc, locals, *target, args)?;
+            Ok(action)
+        }
+        Instruction::Arrive { .. } => Ok(Action::Arrive),
+        Instruction::End => Ok(Action::End),
     }
 }

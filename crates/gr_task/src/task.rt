@@ -1,12 +1,12 @@
 //! A suspended task: a point of the code, and the words of the locals.
-ghost use Rattle.std.specs.Prelude.{◌≡◌, ◌==◌, true, IfOk, drop, length, slice_index, slice_set, if◌then◌else◌};
+ghost use Rattle.std.specs.Prelude.{◌≡◌, ◌==◌, true, IfOk, length, slice_set, if◌then◌else◌};
 ghost use Rattle.gr_lang.specs.Next.{go_on, look, next, start};
 ghost use Rattle.gr_code.specs.Points.{Lowered, point_at};
 ghost use Rattle.gr_code.specs.Terms.{put_reply as reply_put, put_word as word_put};
 ghost use Rattle.gr_task.specs.States.{IsOver, state_of, waits};
 ghost use Rattle.gr_task.specs.TurnWords.{HasWords, Turns, first_of};
 
-use crate::actions::{call_action, divided, loop_action, print_action, spawn_action};
+use crate::actions::{action_of, divided};
 use crate::evaluation::value_of;
 use gr_code::{Code, Instruction, Onward, Targets};
 use gr_lang::{Action, Reply, TrapKind};
@@ -81,33 +81,12 @@ fn chosen(word: u64, one: usize, other: usize) -> usize
     if word == 0 { other } else { one }
 }
 
-fn head(words: &[u64]) -> u64
-    ensures { result ≡ slice_index words.now 0 }
-{
-    if words.len() > 0 { words[0] } else { 0 }
-}
-
-fn tail(words: &[u64]) -> &[u64]
-    ensures { result.now ≡ drop 1 words.now }
-{
-    match words {
-        [_, rest @ ..] => rest,
-        [] => words,
-    }
-}
-
 /// The first words of so many locals: the arguments, then zeros.
 fn first_words(alloc: Global, count: usize, args: &[u64]) -> Result<Vec<u64>, AllocError>
     ensures { IfOk result (λ words. words.items ≡ first_of count args.now) }
 {
-    let mut words = Vec::new(alloc);
-    let mut left = args;
-    let mut more = count;
-    while more > 0 {
-        more -= 1;
-        words.push(head(left))?;
-        left = tail(left);
-    }
+    let mut words = Vec::from_slice(alloc, args)?;
+    words.resize(count, 0)?;
     Ok(words)
 }
 
@@ -164,26 +143,6 @@ impl TaskState {
                         }
                     }
                 }
-                Instruction::Call {
-                    operation,
-                    object,
-                    reducer,
-                    args,
-                    ..
-                } => Ok(Turn::Acts {
-                    action: call_action(
-                        alloc,
-                        code,
-                        *operation,
-                        *object,
-                        *reducer,
-                        &self.locals,
-                        args,
-                    )?,
-                }),
-                Instruction::Print { value, .. } => Ok(Turn::Acts {
-                    action: print_action(&self.locals, value),
-                }),
                 Instruction::Branch {
                     test,
                     one,
@@ -201,25 +160,8 @@ impl TaskState {
                         }
                     }
                 }
-                Instruction::Finish { .. } => Ok(Turn::Acts {
-                    action: Action::Finish,
-                }),
-                Instruction::Spawn {
-                    way,
-                    target,
-                    args,
-                    ..
-                } => Ok(Turn::Acts {
-                    action: spawn_action(alloc, &self.locals, way, *target, args)?,
-                }),
-                Instruction::Loop { target, args, .. } => Ok(Turn::Acts {
-                    action: loop_action(alloc, &self.locals, *target, args)?,
-                }),
-                Instruction::Arrive { .. } => Ok(Turn::Acts {
-                    action: Action::Arrive,
-                }),
-                Instruction::End => Ok(Turn::Acts {
-                    action: Action::End,
+                other => Ok(Turn::Acts {
+                    action: action_of(alloc, code, &self.locals, other)?,
                 }),
             },
         }

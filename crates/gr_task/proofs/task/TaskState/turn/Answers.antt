@@ -2,9 +2,8 @@ use Rattle.std.proofs.Common.{◌∙◌, ap, sym, refl, length}
 use Rattle.gr_lang.specs.Next.{look}
 use Rattle.gr_code.specs.Terms.{term_value}
 use Rattle.gr_code.specs.Points.{point_at}
-use Rattle.gr_code.specs.Instructions.{printed}
 use Rattle.gr_task.specs.States.{state_of}
-use Rattle.gr_task.proofs.Run.{none_looks, set_moves, set_words, branch_moves, branch_words, print_looks}
+use Rattle.gr_task.proofs.Run.{none_looks, set_moves, set_words, branch_moves, branch_words}
 use Rattle.gr_task.proofs.task.TaskState.turn.Goals as goal
 
 pub returns-in-None-clause-turns : goal.returns-in-None-clause-turns
@@ -21,14 +20,6 @@ returns-in-Some-value_of-clause-turns c = (
 pub returns-in-Some-value_of-clause-words : goal.returns-in-Some-value_of-clause-words
 returns-in-Some-value_of-clause-words c =
     set_words c.args.code.now _ _ _ _ _ _ _ c.in-Some-value_of.word c.in-Some.ensures (ap (λ t. length t.words) c.self.view_is ∙ c.requires ∙ ap (λ t. length (point_at c.args.code.now.points t.at).names) (sym c.self.view_is)) c.in-Set.is c.put_word.ensures
-
-pub returns-in-Print-clause-turns : goal.returns-in-Print-clause-turns
-returns-in-Print-clause-turns c = (
-  ap (λ t. look c.args.code.now.program (state_of c.args.code.now t)) (sym c.self.view_is)
-      ∙ print_looks c.args.code.now _ _ _ _ _ _ c.in-Some.ensures (ap (λ t. length t.words) c.self.view_is ∙ c.requires ∙ ap (λ t. length (point_at c.args.code.now.points t.at).names) (sym c.self.view_is)) c.in-Print.is
-      (c.print_action.ensures ∙ ap (λ ws. printed (term_value ws c.in-Print.value)) c.deref-in-Print.ensures.value),
-  refl,
-)
 
 pub returns-in-Some-value_of-2-clause-turns : goal.returns-in-Some-value_of-2-clause-turns
 returns-in-Some-value_of-2-clause-turns c = (
