@@ -5,12 +5,15 @@
 //! it may call stands in a module for each crate, which says what such a row has.
 #![tactic(auto)]
 
+mod action_text;
 mod alloc_rows;
 mod call;
 mod check_rows;
 mod cli_rows;
+mod code_rows;
 mod memory_rows;
 mod packet_rows;
+mod task_rows;
 mod text_rows;
 
 use serde_json::Value;
@@ -24,6 +27,8 @@ fn answers(alloc: Global, row: &Value) -> Result<Option<Vec<String>>, AllocError
         Some("memory") => memory_rows::memory(alloc, row),
         Some("keys") => memory_rows::keys(alloc, row),
         Some("checks") => check_rows::checks(alloc, row),
+        Some("code") => code_rows::code(alloc, row),
+        Some("tasks") => task_rows::tasks(alloc, row),
         Some("options") => cli_rows::options(alloc, row),
         Some("packets") => packet_rows::packets(alloc, row),
         Some("tokens") => text_rows::tokens(alloc, row),
