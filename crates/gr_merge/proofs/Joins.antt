@@ -1,11 +1,10 @@
 -- Local runs one after another.
-use Rattle.std.proofs.Common.{◌≡◌, ℕ, List, [], ◌∷◌, ◌++◌, Option, Some, None, refl, sym, ap, ap₂, ◌∙◌, subst, inl, inr}
+use Rattle.std.proofs.Common.{◌≡◌, ℕ, List, [], ◌∷◌, ◌++◌, Some, refl, sym, ap, ap₂, ◌∙◌, subst, inl, inr}
 use Rattle.std.proofs.lemmas.List.{append_assoc, append-nil}
 use Rattle.std.proofs.lemmas.Bool.{cases_eq}
-use Rattle.std.specs.Option.{option_map}
 use Rattle.gr_view.specs.Places.{put}
 use Rattle.gr_view.proofs.Puts.{put_at, put_other}
-use Rattle.gr_merge.specs.Machines.{Kind, inner, takes, ships, Went, Machine, quiet, shipping, with_last, Marked, entries_in, marks_in}
+use Rattle.gr_merge.specs.Machines.{Kind, inner, takes, ships, Went, Machine, inner_step, take_step, ship_step, with_last, Marked, entries_in, marks_in}
 use Rattle.gr_merge.specs.LocalRuns.{starts, ended, fold_local, LocalAt, LocalRun}
 use Rattle.gr_merge.specs.Laws.{joined}
 use Rattle.gr_merge.proofs.Queues.{put_joined, joined_nothing, nothing_joined, joined_one}
@@ -18,12 +17,6 @@ entries_append (x ∷ xs) ys = ap (λ es. x.0 ∷ es) (entries_append xs ys)
 pub marks_append : {E M : Type 0} (xs ys : List (Marked E M)) → marks_in (xs ++ ys) ≡ marks_in xs ++ marks_in ys
 marks_append [] ys = refl
 marks_append (x ∷ xs) ys = ap (λ ms. x.1 ++ ms) (marks_append xs ys) ∙ sym (append_assoc x.1 (marks_in xs) (marks_in ys))
-
-pub quiet_some : {S P M : Type 0} (o : Option (Went S P M)) (went : Went S P M) → o ≡ Some went → went.packet ≡ None → quiet o ≡ Some went
-quiet_some o went h k = ap quiet h ∙ rw k refl
-
-pub shipping_some : {S P M : Type 0} (o : Option (Went S P M)) (went : Went S P M) (packet : P) → o ≡ Some went → went.packet ≡ Some packet → shipping o ≡ Some (went, packet)
-shipping_some o went packet h k = ap shipping h ∙ ap (option_map (λ p. (went, p))) k
 
 module _ {S E P M : Type 0} (machine : Machine S E P M) (core : ℕ) where
   appended_at : (kind : Kind) (start : S) (received sent later_received later_sent : ℕ → List P) (x : Marked E M) (xs ys : List (Marked E M)) (middle end : S)
@@ -109,48 +102,33 @@ module _ {S E P M : Type 0} (machine : Machine S E P M) (core : ℕ) where
       ∙ runs_join start state end received sent more_received more_sent journal (entry ∷ []) marks noted h k
       ∙ ap (λ ps. Some (ended end ps (marks ++ noted))) s
 
-  pub inner_follows : (start state : S) (received sent : ℕ → List P) (journal : List E) (marks : List M) (entry : E) (went : Went S P M)
+  pub inner_goes_on : (start state : S) (received sent : ℕ → List P) (journal : List E) (marks : List M) (entry : E) (went : Went S P M)
       → fold_local machine core (starts start received) journal ≡ Some (ended state sent marks)
-      → machine.kind entry ≡ inner → machine.step core state entry None ≡ Some went → went.packet ≡ None
+      → machine.kind entry ≡ inner → inner_step machine core state entry ≡ Some went
       → fold_local machine core (starts start received) (journal ++ entry ∷ []) ≡ Some (ended went.state sent (marks ++ went.marks))
-  inner_follows start state received sent journal marks entry went h k step none =
+  inner_goes_on start state received sent journal marks entry went h k step =
       with_entry start state went.state received sent nothing nothing received sent journal marks went.marks entry h
-      (one_runs inner state went.state nothing nothing entry went.marks k
-      (went, quiet_some (machine.step core state entry None) went step none, refl, (refl, (λ k. refl), (λ k. refl))))
+      (one_runs inner state went.state nothing nothing entry went.marks k (went, step, refl, (refl, (λ k. refl), (λ k. refl))))
       (joined_nothing received nothing (λ k. refl)) (joined_nothing sent nothing (λ k. refl))
 
-  pub take_follows : (start state : S) (received sent : ℕ → List P) (journal : List E) (marks : List M) (entry : E) (origin : ℕ) (packet : P) (went : Went S P M)
+  pub take_goes_on : (start state : S) (received sent : ℕ → List P) (journal : List E) (marks : List M) (entry : E) (origin : ℕ) (packet : P) (went : Went S P M)
       → fold_local machine core (starts start received) journal ≡ Some (ended state sent marks)
-      → machine.kind entry ≡ takes origin → machine.step core state entry (Some packet) ≡ Some went → went.packet ≡ None
+      → machine.kind entry ≡ takes origin → take_step machine core state entry packet ≡ Some went
       → fold_local machine core (starts start (with_last received origin packet)) (journal ++ entry ∷ []) ≡ Some (ended went.state sent (marks ++ went.marks))
-  take_follows start state received sent journal marks entry origin packet went h k step none =
+  take_goes_on start state received sent journal marks entry origin packet went h k step =
       let got : ℕ → List P = put nothing origin (packet ∷ []) in
       with_entry start state went.state received sent got nothing (with_last received origin packet) sent journal marks went.marks entry h
-      (one_runs (takes origin) state went.state got nothing entry went.marks k (
-        went,
-        packet,
-        [],
-        put_at nothing origin (packet ∷ []) origin refl,
-        quiet_some (machine.step core state entry (Some packet)) went step none,
-        refl,
-        (refl, emptied origin packet, (λ k. refl)),
-      ))
+      (one_runs (takes origin) state went.state got nothing entry went.marks k
+      (went, packet, [], put_at nothing origin (packet ∷ []) origin refl, step, refl, (refl, emptied origin packet, (λ k. refl))))
       (joined_one received origin packet) (joined_nothing sent nothing (λ k. refl))
 
-  pub ship_follows : (start state : S) (received sent : ℕ → List P) (journal : List E) (marks : List M) (entry : E) (dest : ℕ) (packet : P) (went : Went S P M)
+  pub ship_goes_on : (start state : S) (received sent : ℕ → List P) (journal : List E) (marks : List M) (entry : E) (dest : ℕ) (packet : P) (went : Went S P M)
       → fold_local machine core (starts start received) journal ≡ Some (ended state sent marks)
-      → machine.kind entry ≡ ships dest → machine.step core state entry None ≡ Some went → went.packet ≡ Some packet
+      → machine.kind entry ≡ ships dest → ship_step machine core state entry ≡ Some (went, packet)
       → fold_local machine core (starts start received) (journal ++ entry ∷ []) ≡ Some (ended went.state (with_last sent dest packet) (marks ++ went.marks))
-  ship_follows start state received sent journal marks entry dest packet went h k step some =
+  ship_goes_on start state received sent journal marks entry dest packet went h k step =
       let put_out : ℕ → List P = put nothing dest (packet ∷ []) in
       with_entry start state went.state received sent nothing put_out received (with_last sent dest packet) journal marks went.marks entry h
-      (one_runs (ships dest) state went.state nothing put_out entry went.marks k (
-        went,
-        packet,
-        [],
-        put_at nothing dest (packet ∷ []) dest refl,
-        shipping_some (machine.step core state entry None) went packet step some,
-        refl,
-        (refl, (λ k. refl), emptied dest packet),
-      ))
+      (one_runs (ships dest) state went.state nothing put_out entry went.marks k
+      (went, packet, [], put_at nothing dest (packet ∷ []) dest refl, step, refl, (refl, (λ k. refl), emptied dest packet)))
       (joined_nothing received nothing (λ k. refl)) (joined_one sent dest packet)

@@ -2,7 +2,7 @@
 use Rattle.std.specs.Prelude.{◌≡◌, ℕ, ◌<◌, All, List, [], ◌∷◌, ◌++◌, length, slice_index_or, Option, Some, None}
 use Rattle.std.specs.Option.{option_and_then}
 use Rattle.std.specs.List.Sorted.{IsNonDecreasingBy, IsSortedBy}
-use Rattle.gr_merge.specs.Machines.{inner, takes, ships, Went, Machine, with_last, Marked, entries_in, marks_in}
+use Rattle.gr_merge.specs.Machines.{inner, takes, ships, Went, Machine, inner_step, take_step, ship_step, with_last, Marked, entries_in, marks_in}
 use Rattle.gr_merge.specs.LocalRuns.{Came, starts, ended, fold_local, LocalRun}
 use Rattle.gr_merge.specs.GlobalRuns.{World, opening, fold_global, GlobalRun, steps_in, all_marks}
 use Rattle.gr_merge.specs.Merges.{goes_first, merge, at_core}
@@ -89,32 +89,32 @@ LocalRunsJoin State Entry Packet Mark =
     → fold_local machine core (starts start (joined received later_received)) (journal ++ later)
     ≡ Some (ended end (joined sent later_sent) (marks ++ later_marks))
 
--- One more inner entry.
-abbrev pub InnerEntriesFollow : (State Entry Packet Mark : Type 0) → Type 0
-InnerEntriesFollow State Entry Packet Mark =
+-- A local run goes on by an inner entry.
+abbrev pub InnerEntriesGoOn : (State Entry Packet Mark : Type 0) → Type 0
+InnerEntriesGoOn State Entry Packet Mark =
     (machine : Machine State Entry Packet Mark) (core : ℕ) (start state : State) (received sent : ℕ → List Packet)
     (journal : List Entry) (marks : List Mark) (entry : Entry) (went : Went State Packet Mark)
     → fold_local machine core (starts start received) journal ≡ Some (ended state sent marks)
-    → machine.kind entry ≡ inner → machine.step core state entry None ≡ Some went → went.packet ≡ None
+    → machine.kind entry ≡ inner → inner_step machine core state entry ≡ Some went
     → fold_local machine core (starts start received) (journal ++ entry ∷ []) ≡ Some (ended went.state sent (marks ++ went.marks))
 
--- One more entry that takes a packet: the last that was received from its origin.
-abbrev pub TakesFollow : (State Entry Packet Mark : Type 0) → Type 0
-TakesFollow State Entry Packet Mark =
+-- It goes on by an entry that takes a packet: the last that was received from its origin.
+abbrev pub TakesGoOn : (State Entry Packet Mark : Type 0) → Type 0
+TakesGoOn State Entry Packet Mark =
     (machine : Machine State Entry Packet Mark) (core : ℕ) (start state : State) (received sent : ℕ → List Packet)
     (journal : List Entry) (marks : List Mark) (entry : Entry) (origin : ℕ) (packet : Packet) (went : Went State Packet Mark)
     → fold_local machine core (starts start received) journal ≡ Some (ended state sent marks)
-    → machine.kind entry ≡ takes origin → machine.step core state entry (Some packet) ≡ Some went → went.packet ≡ None
+    → machine.kind entry ≡ takes origin → take_step machine core state entry packet ≡ Some went
     → fold_local machine core (starts start (with_last received origin packet)) (journal ++ entry ∷ [])
     ≡ Some (ended went.state sent (marks ++ went.marks))
 
--- One more entry that ships a packet: the last that was sent to its destination.
-abbrev pub ShipsFollow : (State Entry Packet Mark : Type 0) → Type 0
-ShipsFollow State Entry Packet Mark =
+-- It goes on by an entry that ships a packet: the last that was sent to its destination.
+abbrev pub ShipsGoOn : (State Entry Packet Mark : Type 0) → Type 0
+ShipsGoOn State Entry Packet Mark =
     (machine : Machine State Entry Packet Mark) (core : ℕ) (start state : State) (received sent : ℕ → List Packet)
     (journal : List Entry) (marks : List Mark) (entry : Entry) (dest : ℕ) (packet : Packet) (went : Went State Packet Mark)
     → fold_local machine core (starts start received) journal ≡ Some (ended state sent marks)
-    → machine.kind entry ≡ ships dest → machine.step core state entry None ≡ Some went → went.packet ≡ Some packet
+    → machine.kind entry ≡ ships dest → ship_step machine core state entry ≡ Some (went, packet)
     → fold_local machine core (starts start received) (journal ++ entry ∷ [])
     ≡ Some (ended went.state (with_last sent dest packet) (marks ++ went.marks))
 

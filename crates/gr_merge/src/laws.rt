@@ -25,12 +25,16 @@ pub fn folds_go_on<S, E, P, M>()
     ensures global { laws.GlobalFoldsGoOn S E P M }
 {}
 
-/// A local run goes on with another, and with one more entry.
+/// Two local runs, of which the second begins where the first ended, are one.
 pub fn journals_grow<S, E, P, M>()
-    ensures join { laws.LocalRunsJoin S E P M }
-    ensures inner { laws.InnerEntriesFollow S E P M }
-    ensures takes { laws.TakesFollow S E P M }
-    ensures ships { laws.ShipsFollow S E P M }
+    ensures { laws.LocalRunsJoin S E P M }
+{}
+
+/// A local run goes on by one more entry of its journal: an inner one, one that takes a packet, or one that ships one.
+pub fn runs_go_on<S, E, P, M>()
+    ensures inner { laws.InnerEntriesGoOn S E P M }
+    ensures takes { laws.TakesGoOn S E P M }
+    ensures ships { laws.ShipsGoOn S E P M }
 {}
 
 /// Local runs whose packets match are one global run, in each order in which no clock falls.
