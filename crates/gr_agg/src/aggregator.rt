@@ -87,6 +87,17 @@ impl Aggregator {
         add_at(&mut self.buffers, dest as usize, msg)
     }
 
+    /// How many messages wait for a core; 0 where there is no such core.
+    #[tactic(auto, using(gr_view::proofs::Puts::at_lists))]
+    pub fn waiting(&self, dest: u64) -> u64
+        ensures { result ≡ length ((waiting_in self.now).messages dest) }
+    {
+        match self.buffers.get(dest as usize) {
+            Some(buffer) => buffer.len() as u64,
+            None => 0,
+        }
+    }
+
     /// Whether messages are to be shipped to a core: as many wait as a packet may have, or any while the core has
     /// nothing to do.
     #[tactic(auto, using(gr_view::proofs::Puts::at_lists))]

@@ -1,6 +1,6 @@
 //! The counts of unfinished tasks that this core keeps.
 ghost use Rattle.std.specs.Prelude.{◌≡◌, ◌<◌, ◌≤◌, ◌^◌, ℕ, IfOk, IsSome, IsSomeAnd, OnErr, OnOk, None, Some, is_some};
-ghost use Rattle.std.specs.Option.{unwrap_or};
+ghost use Rattle.std.specs.Option.{option_copied, unwrap_or};
 ghost use Rattle.gr_event.specs.Scopes.{at_scope, put_scope};
 ghost use Rattle.gr_event.specs.Counts.{active_count, completed, counts_of, enrol_answer, enrolled, left_of, waiting_slots, when_acked};
 
@@ -248,6 +248,13 @@ impl LocalCounts {
             );
             LocalLeft::More
         }
+    }
+
+    /// What is kept of a scope; none where the scope isn't there.
+    pub fn get(&self, scope: ScopeId) -> Option<&LocalCount>
+        ensures { option_copied result ≡ counts_of self.now scope }
+    {
+        find(&self.counts, scope)
     }
 
     /// The count of a scope; none exactly where the scope isn't active.

@@ -6,6 +6,6 @@ mod counts;
 mod laws;
 mod masters;
 
-pub use counts::{Enrol, LocalCounts, LocalLeft};
+pub use counts::{Enrol, LocalCount, LocalCounts, LocalLeft};
 pub use laws::scopes_are_put;
-pub use masters::{Masters, Release, Waiter};
+pub use masters::{Master, Masters, Release, Waiter};

@@ -31,8 +31,8 @@ pub enum Release {
 /// The number of active cores of a scope, and who waits for its end.
 #[derive(Clone, Copy)]
 pub struct Master {
-    active: u64,
-    waiter: Option<Waiter>,
+    pub active: u64,
+    pub waiter: Option<Waiter>,
 }
 
 /// For each scope whose home is this core, the number of its active cores and who waits.
@@ -70,7 +70,8 @@ impl Masters {
         }
     }
 
-    fn get(&self, scope: ScopeId) -> Option<Master>
+    /// The master of a scope; none where the scope isn't there.
+    pub fn get(&self, scope: ScopeId) -> Option<Master>
         ensures { result ≡ masters_of self.now scope }
     {
         master_at(&self.masters, scope)

@@ -13,6 +13,7 @@ mod shared;
 mod turn_plan;
 
 pub use combiner::VecCombiner;
+pub use ends::Ends;
 pub use laws::{
     groups_are_the_calls, plans_are_the_calls, turn_rows, turns_are_in_order, vector_rows,
 };

@@ -42,6 +42,13 @@ impl VecPart {
         held_at(&self.words, position).is_some()
     }
 
+    /// The word at this position, if one is held there.
+    pub fn get(&self, position: u64) -> Option<u64>
+        ensures { result ≡ part_of self.now position }
+    {
+        held_at(&self.words, position)
+    }
+
     /// Puts a word at an empty position. Unchanged where there is no memory.
     pub fn put(&mut self, position: u64, word: u64) -> Result<(), AllocError>
         requires { part_of self.old position ≡ None }
