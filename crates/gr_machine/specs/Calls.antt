@@ -7,7 +7,8 @@ use Rattle.gr_lang.specs.Objects.{Object, keys, pairs, address}
 use Rattle.gr_view.specs.Places.{put}
 use Rattle.gr_msg.specs.declared.message.Msg.TheVariants as msg
 use Rattle.gr_machine.specs.Machines.{Machine, home, thing}
-use Rattle.gr_machine.specs.States.{for_reply, for_close, Suspended, Vector, Body}
+use Rattle.gr_machine.specs.declared.waits.Waits.TheVariants as wait
+use Rattle.gr_machine.specs.States.{Suspended, Vector, Body}
 use Rattle.gr_machine.specs.Outcomes.{Outcome, to, quietly}
 use Rattle.gr_machine.specs.Slots.{waiting, dropped}
 
@@ -16,7 +17,7 @@ use Rattle.gr_machine.specs.Slots.{waiting, dropped}
 -- The call of this number is asked of a core, and the task waits for the reply.
 abbrev pub call_asked : Body → ℕ → Suspended → ℕ → ℕ → ℕ → ℕ → ℕ → Outcome
 call_asked body slot task core operation x y z = record {
-  body = waiting body slot task for_reply;
+  body = waiting body slot task wait.Reply;
   sends = to core (msg.Request slot task.id operation x y z);
   marks = [];
 }
@@ -33,7 +34,7 @@ waiting_call slot task call = record { slot = slot; id = task.id; op = call }
 
 -- A call on a key joins the calls that wait on its object, the last. The key of a reduce is the address of its word.
 abbrev pub joins : Body → ℕ → Suspended → Op → ℕ → ℕ → Outcome
-joins body slot task call object key = quietly (record (waiting body slot task (for_close object)) {
+joins body slot task call object key = quietly (record (waiting body slot task (wait.Close object)) {
   batches = record body.batches {
     combiners = put body.batches.combiners object (body.batches.combiners object ++ record { key = key; call = waiting_call slot task call } ∷ []);
   };
@@ -66,7 +67,7 @@ reduce_joins body slot task call object _ _ = dropped body slot
 -- A call on a vector joins the calls that wait on it, the last, where there is such a vector.
 abbrev pub vector_joins : Body → ℕ → Suspended → Op → ℕ → Option Vector → Outcome
 vector_joins body slot task call object None = dropped body slot
-vector_joins body slot task call object (Some vector) = quietly (record (waiting body slot task (for_close object)) {
+vector_joins body slot task call object (Some vector) = quietly (record (waiting body slot task (wait.Close object)) {
   vectors = record body.vectors {
     vectors = put body.vectors.vectors object (Some (record vector { combiner = vector.combiner ++ waiting_call slot task call ∷ [] }));
   };

@@ -11,7 +11,8 @@ use Rattle.gr_batch.specs.declared.combiner.Held.{Held}
 use Rattle.gr_vector.specs.Groups.{group_of}
 use Rattle.gr_machine.specs.declared.mark.Mark.TheVariants as mark
 use Rattle.gr_machine.specs.Machines.{Machine, home, numbered_home, thing}
-use Rattle.gr_machine.specs.States.{for_batch, for_turn, Vector, Body}
+use Rattle.gr_machine.specs.declared.waits.Waits.TheVariants as wait
+use Rattle.gr_machine.specs.States.{Vector, Body}
 use Rattle.gr_machine.specs.Outcomes.{Outcome, to, quietly, followed}
 use Rattle.gr_machine.specs.Slots.{rewaiting}
 use Rattle.gr_machine.specs.TurnServes.{with_vector}
@@ -29,7 +30,7 @@ with_flying body calls = record body { batches = record body.batches { flying = 
 -- A batch goes off: it is marked with its calls, whose tasks wait for it from now on.
 abbrev pub batch_sent : Machine → Body → ℕ → Batch → Outcome
 batch_sent machine body object batch = record {
-  body = with_flying (rewaiting body (for_batch body.batches.next) batch.calls) batch.calls;
+  body = with_flying (rewaiting body (wait.Batch body.batches.next) batch.calls) batch.calls;
   sends = to (batch_home machine (thing machine object) batch.key) (msg.Batch object batch.key batch.effect body.batches.next);
   marks = mark.Closed body.batches.next batch.calls ∷ [];
 }
@@ -49,7 +50,7 @@ closes_combiner machine body object held = batches_sent machine object (quietly 
 -- All calls are the newest group, for which a turn is asked.
 abbrev pub closes_vector : Machine → Body → ℕ → Vector → List WaitingCall → Outcome
 closes_vector machine body object vector group = record {
-  body = rewaiting (with_vector body object (record vector { combiner = []; groups = vector.groups ++ group ∷ [] })) (for_turn object) group;
+  body = rewaiting (with_vector body object (record vector { combiner = []; groups = vector.groups ++ group ∷ [] })) (wait.Turn object) group;
   sends = to (numbered_home machine object) (msg.Turn object);
   marks = [];
 }

@@ -4,6 +4,7 @@ use Rattle.gr_view.specs.Places.{put}
 use Rattle.gr_msg.specs.declared.message.Unit.{Unit as WorkUnit}
 use Rattle.gr_msg.specs.declared.message.Msg.{Msg}
 use Rattle.gr_msg.specs.declared.message.Msg.TheVariants as msg
+use Rattle.gr_msg.specs.declared.opened.Opened.{Opened}
 use Rattle.gr_work.specs.Queues.{is_empty}
 use Rattle.gr_machine.specs.declared.event.Event.{Event}
 use Rattle.gr_machine.specs.declared.event.Event.TheVariants as event
@@ -17,9 +18,8 @@ use Rattle.gr_machine.specs.Closes.{closes}
 use Rattle.gr_machine.specs.Enabled.{enabled}
 
 -- A packet: the clock with which it was shipped, and its messages.
-pub record Packet : Type 0 where
-  pub clock : ℕ
-  pub messages : List Msg
+abbrev pub Packet : Type 0
+Packet = Opened
 
 -- Outcomes within one event
 

@@ -1,6 +1,8 @@
 -- Local runs: what one core comes to by its journal, with the packets that it takes from each other core.
-use Rattle.std.specs.Prelude.{◌≡◌, ℕ, List, Option, Some}
+use Rattle.std.specs.Prelude.{◌≡◌, ℕ, List, [], Option, Some}
 use Rattle.gr_merge.specs.LocalRuns.{Came, starts, ended, fold_local}
+use Rattle.gr_view.specs.Places.{at_place}
+use Rattle.gr_machine.specs.declared.core_end.CoreEnd.{CoreEnd}
 use Rattle.gr_machine.specs.declared.counts.Counts.{Counts}
 use Rattle.gr_machine.specs.declared.journal.Stamped.{Stamped}
 use Rattle.gr_machine.specs.declared.journal.StampedMark.{StampedMark}
@@ -27,6 +29,19 @@ pub record End : Type 0 where
   pub sent : ℕ → List Packet
   pub marks : List StampedMark
   pub counts : Counts
+
+-- What a core's end tells.
+abbrev pub end_in : CoreEnd → End
+end_in end = record {
+  core = end.core;
+  clock = end.clock;
+  first = end.first;
+  journal = end.journal;
+  received = at_place [] end.received;
+  sent = at_place [] end.sent;
+  marks = end.marks;
+  counts = end.counts;
+}
 
 -- The journal can be made, takes all packets that were received, and gives the rest of the end.
 pub record IsLocalRun (machine : Machine) (end : End) : Type 0 where

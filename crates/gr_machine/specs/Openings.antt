@@ -12,7 +12,8 @@ use Rattle.gr_event.specs.declared.counts.LocalCount.TheVariants as count
 use Rattle.gr_event.specs.declared.masters.Waiter.TheVariants as waiter
 use Rattle.gr_event.specs.Masters.{new_master, wait_for}
 use Rattle.gr_machine.specs.Machines.{Machine, numbered_home, thing}
-use Rattle.gr_machine.specs.States.{going, Suspended, Tasks, Scopes, Words, Vector, Vectors, Body, Core}
+use Rattle.gr_machine.specs.declared.waits.Waits.TheVariants as wait
+use Rattle.gr_machine.specs.States.{Suspended, Tasks, Scopes, Words, Vector, Vectors, Body, Core}
 
 -- The root scope: number 0 of core 0.
 abbrev pub root_scope : ScopeId
@@ -20,7 +21,7 @@ root_scope = record { core = 0; number = 0 }
 
 -- A task that hasn't done anything, in a scope, with the core that counts its end, at its first action.
 abbrev pub new_task : TaskId → ScopeId → ℕ → Stands → Suspended
-new_task id scope origin at = record { id = id; scope = scope; origin = origin; action = at.0; running = at.1; waits = going; opened = [] }
+new_task id scope origin at = record { id = id; scope = scope; origin = origin; action = at.0; running = at.1; waits = wait.Going; opened = [] }
 
 abbrev pub main_task : Machine → Suspended
 main_task machine = new_task main_id root_scope 0 (machine.code.start machine.code.main [])

@@ -18,7 +18,8 @@ use Rattle.gr_event.specs.declared.masters.Waiter.TheVariants as waiter
 use Rattle.gr_event.specs.declared.masters.Release.{Release}
 use Rattle.gr_event.specs.declared.masters.Release.TheVariants as release
 use Rattle.gr_machine.specs.Machines.{Machine, is_core}
-use Rattle.gr_machine.specs.States.{for_scope, Suspended, Body}
+use Rattle.gr_machine.specs.declared.waits.Waits.TheVariants as wait
+use Rattle.gr_machine.specs.States.{Suspended, Body}
 use Rattle.gr_machine.specs.Outcomes.{Outcome, to, marked, quietly}
 use Rattle.gr_machine.specs.Slots.{with_slot, waiting, readied, dropped, goes_on}
 use Rattle.gr_machine.specs.Spawns.{private_first}
@@ -62,7 +63,7 @@ finishes machine me body slot task =
 abbrev pub loops_in : ℕ → Body → ℕ → Suspended → ℕ → ℕ → ℕ → ℕ → List ℕ → ScopeId → Outcome
 loops_in me body slot task lo hi grain target args scope = record {
   body = private_first
-      (waiting (with_scope body scope (hi - lo) (wait_for (waiter.Task slot) new_master)) slot (opens task scope) (for_scope scope))
+      (waiting (with_scope body scope (hi - lo) (wait_for (waiter.Task slot) new_master)) slot (opens task scope) (wait.Scope scope))
       (unit.Chunk target args scope me task.id lo hi grain);
   sends = [];
   marks = marked (entry.Loop task.id lo hi grain target args);
@@ -119,7 +120,7 @@ arrived body scope slot = record body {
 
 -- The task waits for the end of the scope.
 abbrev pub arrives_early : Body → ℕ → Suspended → ScopeId → Outcome
-arrives_early body slot task scope = quietly (waiting body slot task (for_scope scope))
+arrives_early body slot task scope = quietly (waiting body slot task (wait.Scope scope))
 
 -- This core has left the scope: the task waits for others that are active, or passes.
 abbrev pub arrives_last : Machine → Body → ℕ → Suspended → ScopeId → Release → Outcome

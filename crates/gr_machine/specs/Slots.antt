@@ -11,7 +11,9 @@ use Rattle.gr_msg.specs.Scopes.{same_scope}
 use Rattle.gr_msg.specs.declared.message.ScopeId.{ScopeId}
 use Rattle.gr_batch.specs.declared.wakes.Woken.{Woken}
 use Rattle.gr_machine.specs.Machines.{Machine}
-use Rattle.gr_machine.specs.States.{Waits, going, for_reply, for_batch, for_turn, for_enrolment, for_scope, Suspended, Tasks, Body}
+use Rattle.gr_machine.specs.declared.waits.Waits.{Waits}
+use Rattle.gr_machine.specs.declared.waits.Waits.TheVariants as wait
+use Rattle.gr_machine.specs.States.{Suspended, Tasks, Body}
 use Rattle.gr_machine.specs.Outcomes.{Outcome, quietly}
 
 abbrev pub with_tasks : Body → Tasks → Body
@@ -42,7 +44,7 @@ own_id me body = record { core = me; number = body.tasks.next }
 
 -- A task at its next action.
 abbrev pub stands_at : Suspended → Stands → Suspended
-stands_at task at = record task { action = at.0; running = at.1; waits = going }
+stands_at task at = record task { action = at.0; running = at.1; waits = wait.Going }
 
 -- A task that goes on after its action, with the reply.
 abbrev pub goes_on : Machine → Suspended → Reply → Suspended
@@ -62,32 +64,38 @@ abbrev pub same_id : TaskId → TaskId → Bool
 same_id one other = one.core == other.core && one.number == other.number
 
 abbrev pub awaits_reply : Waits → Bool
-awaits_reply for_reply = true
+awaits_reply wait.Reply = true
 awaits_reply _ = false
 
 abbrev pub awaits_batch : ℕ → Waits → Bool
-awaits_batch number (for_batch batch) = batch == number
+awaits_batch number (wait.Batch batch) = batch == number
 awaits_batch number _ = false
 
 abbrev pub awaits_turn : ℕ → Waits → Bool
-awaits_turn number (for_turn vector) = vector == number
+awaits_turn number (wait.Turn vector) = vector == number
 awaits_turn number _ = false
 
 abbrev pub awaits_enrolment : ScopeId → Waits → Bool
-awaits_enrolment scope (for_enrolment other) = same_scope other scope
+awaits_enrolment scope (wait.Enrolment other) = same_scope other scope
 awaits_enrolment scope _ = false
 
 abbrev pub awaits_scope : ScopeId → Waits → Bool
-awaits_scope scope (for_scope other) = same_scope other scope
+awaits_scope scope (wait.Scope other) = same_scope other scope
 awaits_scope scope _ = false
 
--- Whether a task is in the slot, and waits for this.
-abbrev pub slot_awaits : (Waits → Bool) → Body → ℕ → Bool
-slot_awaits awaits body slot = option_map_or (λ task. awaits task.waits) (body.tasks.slots slot) false
+-- Whether a task is there that waits for this; whether it is the task of this name.
+abbrev pub one_awaits : (Waits → Bool) → Option Suspended → Bool
+one_awaits awaits held = option_map_or (λ task. awaits task.waits) held false
 
--- Whether the task of this name is in the slot, and waits for this.
+abbrev pub named_awaits : (Waits → Bool) → TaskId → Option Suspended → Bool
+named_awaits awaits id held = option_map_or (λ task. awaits task.waits && same_id task.id id) held false
+
+-- Whether such a task is in the slot.
+abbrev pub slot_awaits : (Waits → Bool) → Body → ℕ → Bool
+slot_awaits awaits body slot = one_awaits awaits (body.tasks.slots slot)
+
 abbrev pub task_awaits : (Waits → Bool) → Body → ℕ → TaskId → Bool
-task_awaits awaits body slot id = option_map_or (λ task. awaits task.waits && same_id task.id id) (body.tasks.slots slot) false
+task_awaits awaits body slot id = named_awaits awaits id (body.tasks.slots slot)
 
 -- Whether the task of each of these calls waits for this.
 abbrev pub calls_await : (Waits → Bool) → Body → List WaitingCall → Bool

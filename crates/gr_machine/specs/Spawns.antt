@@ -17,14 +17,15 @@ use Rattle.gr_event.specs.declared.counts.LocalCount.{LocalCount}
 use Rattle.gr_event.specs.declared.counts.Enrol.{Enrol}
 use Rattle.gr_event.specs.declared.counts.Enrol.TheVariants as enrol
 use Rattle.gr_machine.specs.Machines.{Machine, is_core}
-use Rattle.gr_machine.specs.States.{for_enrolment, for_nothing, Suspended, Body}
+use Rattle.gr_machine.specs.declared.waits.Waits.TheVariants as wait
+use Rattle.gr_machine.specs.States.{Suspended, Body}
 use Rattle.gr_machine.specs.Outcomes.{Outcome, to, marked, quietly, followed}
 use Rattle.gr_machine.specs.Slots.{waiting, readied, numbered, dropped, own_id, goes_on, innermost}
 
 -- The task is trapped, and so its core: it waits for nothing.
 abbrev pub trapped : Body → ℕ → Suspended → TrapKind → Outcome
 trapped body slot task kind = record {
-  body = record (waiting body slot task for_nothing) { stops = record body.stops { trapped = true } };
+  body = record (waiting body slot task wait.Nothing) { stops = record body.stops { trapped = true } };
   sends = [];
   marks = marked (entry.Trap task.id kind);
 }
@@ -66,10 +67,10 @@ with_count body scope count = record body { scopes = record body.scopes { counts
 
 -- The core asks the scope's home whether it may count, and the task waits; or the task waits behind others.
 abbrev pub asks_enrolment : Body → ℕ → Suspended → ScopeId → Outcome
-asks_enrolment body slot task scope = record { body = waiting body slot task (for_enrolment scope); sends = to scope.core (msg.Enrol scope); marks = [] }
+asks_enrolment body slot task scope = record { body = waiting body slot task (wait.Enrolment scope); sends = to scope.core (msg.Enrol scope); marks = [] }
 
 abbrev pub waits_enrolment : Body → ℕ → Suspended → ScopeId → Outcome
-waits_enrolment body slot task scope = quietly (waiting body slot task (for_enrolment scope))
+waits_enrolment body slot task scope = quietly (waiting body slot task (wait.Enrolment scope))
 
 -- The new task is counted and made, or one of the others.
 abbrev pub enrolled_as : Machine → ℕ → Body → ℕ → Suspended → How → ℕ → List ℕ → Enrol → Outcome

@@ -14,18 +14,8 @@ use Rattle.gr_work.specs.Queues.{Queues}
 use Rattle.gr_batch.specs.declared.combiner.Held.{Held}
 use Rattle.gr_vector.specs.declared.ends.Ends.{Ends}
 use Rattle.gr_vector.specs.Turns.{Turns}
+use Rattle.gr_machine.specs.declared.waits.Waits.{Waits}
 use Rattle.gr_net.specs.Messages as net
-
--- What a task in a slot waits for. One that is going waits for nothing but to be run: its slot is ready. A trapped one waits for nothing.
-pub data Waits : Type 0 where
-  going : Waits
-  for_reply : Waits
-  for_close : (object : ℕ) → Waits
-  for_batch : (batch : ℕ) → Waits
-  for_turn : (vector : ℕ) → Waits
-  for_enrolment : ScopeId → Waits
-  for_scope : ScopeId → Waits
-  for_nothing : Waits
 
 -- A task in a slot: its scope, the core that counts its end, its next action and the state in which that stands, what it waits for, and the scopes that it
 -- has opened and not passed, the innermost first.

@@ -2,6 +2,7 @@
 //! the events of all cores make of a program.
 #![tactic(auto)]
 
+mod core_end;
 mod counts;
 mod event;
 mod event_rows;
@@ -11,7 +12,9 @@ mod mark;
 mod program_rows;
 mod run_rows;
 mod setup;
+mod waits;
 
+pub use core_end::{CoreEnd, CoreEnds, PacketLists, Packets};
 pub use counts::Counts;
 pub use event::Event;
 pub use event_rows::{enabled_rows, single_rows};
@@ -21,3 +24,4 @@ pub use mark::Mark;
 pub use program_rows::programs_of_runs;
 pub use run_rows::{runs_on_one_core, runs_on_two_cores};
 pub use setup::Setup;
+pub use waits::Waits;
