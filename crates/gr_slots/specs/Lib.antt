@@ -1,0 +1,3 @@
+pub mod Held
+-- For proofs and private functions.
+pub mod SlotView
