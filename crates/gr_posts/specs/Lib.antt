@@ -1,0 +1,3 @@
+pub mod Posts
+-- For proofs and private functions.
+pub mod PostView
