@@ -1,0 +1,3 @@
+pub mod Combining
+-- For proofs and private functions.
+pub mod CombiningView
