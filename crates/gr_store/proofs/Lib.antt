@@ -1,0 +1,3 @@
+pub mod Shards
+pub mod Listed
+pub mod Openings

@@ -1,0 +1,3 @@
+pub mod Stores
+-- For proofs and private functions.
+pub mod StoreView

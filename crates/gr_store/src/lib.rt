@@ -1,0 +1,10 @@
+//! What lies at a core of all that is shared: words, what stands under keys, and the blocks of the heap.
+#![tactic(auto)]
+
+mod opening;
+mod shard;
+mod shared;
+mod store;
+
+pub use shared::stores_are_shared;
+pub use store::Store;
