@@ -1,0 +1,2 @@
+pub mod ByShape
+pub mod Reaching
