@@ -1,0 +1,4 @@
+pub mod Doing
+pub mod Folds
+pub mod Courses
+pub mod Steps

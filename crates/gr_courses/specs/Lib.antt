@@ -1,0 +1,4 @@
+pub mod Seen
+pub mod Folds
+pub mod Courses
+pub mod Laws
