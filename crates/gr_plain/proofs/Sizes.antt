@@ -1,4 +1,4 @@
--- The words of an accepted program: its heap has at most 2^24, and its arrays lie in the words with which it opens.
+-- The words of an accepted program: its heap has no more than all words may be, and its arrays lie in the words with which it opens.
 use Rattle.std.proofs.Common.{◌≡◌, ℕ, ◌+◌, ◌-◌, ◌≤◌, ◌^◌, Bool, true, false, ◌&&◌, List, [], ◌∷◌, ◌++◌, refl, sym, ap, ◌∙◌, arith, subst, length, length-append}
 use Rattle.std.specs.Prelude.{nat_le, nat_lt, replicate}
 use Rattle.std.specs.List.{flat_map, All}
@@ -15,6 +15,7 @@ use Rattle.gr_accept.specs.Accepted.{IsAccepted, heads_sites, head_sites, uses_s
 use Rattle.gr_accept.specs.Conditions.{faults_at, words_in}
 use Rattle.gr_accept.specs.Declarations.{Meaning, first_named}
 use Rattle.gr_syntax.specs.Faults.{when}
+use Rattle.gr_syntax.specs.declared.limits.TheConstants.{MAX_WORDS}
 use Rattle.gr_lang.specs.Openings.{array_words, heap_words, input_of, objects_from, padded}
 use Rattle.gr_accept.specs.Sites.{sizes, ends}
 use Rattle.gr_syntax.specs.declared.refusal.Fault.{Fault}
@@ -37,11 +38,11 @@ unbroken : (b : Bool) (kind : Kind) (at : Place) (more : List Fault) → when b 
 unbroken true kind at more e = cc
 unbroken false kind at more e = refl
 
-within : (a b : ℕ) → a ≤ 16777216 → (nat_le a 16777216 && nat_lt 16777216 b) ≡ false → b ≤ 16777216
+within : (a b : ℕ) → a ≤ MAX_WORDS → (nat_le a MAX_WORDS && nat_lt MAX_WORDS b) ≡ false → b ≤ MAX_WORDS
 within a b h e = grind (arith, nat_tests)
 
--- Where no fault is at the size of an array or the heap, it keeps the sum within 2^24.
-sized : (m : Meaning) (n : Number) (before : List Item) → words_in before ≤ 16777216 → faults_at m (sizes n before) ≡ [] → words_in before + n.value ≤ 16777216
+-- Where no fault is at the size of an array or the heap, it keeps the sum within the limit.
+sized : (m : Meaning) (n : Number) (before : List Item) → words_in before ≤ MAX_WORDS → faults_at m (sizes n before) ≡ [] → words_in before + n.value ≤ MAX_WORDS
 unfolding faults_at
 sized m n before h e = within (words_in before) (words_in before + n.value) h (unbroken _ _ _ _ e)
 
@@ -52,14 +53,14 @@ step m item more before e =
     (none_before _ _ split, none_behind _ _ split)
 
 -- Item by item, the words before it fit.
-walked : (m : Meaning) (items before : List Item) → words_in before ≤ 16777216 → flat_map (faults_at m) (heads_sites before items) ≡ [] → heap_words items ≤ 16777216
+walked : (m : Meaning) (items before : List Item) → words_in before ≤ MAX_WORDS → flat_map (faults_at m) (heads_sites before items) ≡ [] → heap_words items ≤ MAX_WORDS
 walked m [] before h e = omega arith
 walked m (i.Array name words ∷ more) before h e =
     let s = step m (i.Array name words) more before e in
     walked m more (i.Array name words ∷ before) (sized m words before h (none_before _ _ s.0)) s.1
 walked m (i.Heap words ∷ more) before h e =
     let s = step m (i.Heap words) more before e in
-    let all : words_in before + words.value ≤ 16777216 = sized m words before h (none_before _ _ s.0) in omega (arith, all)
+    let all : words_in before + words.value ≤ MAX_WORDS = sized m words before h (none_before _ _ s.0) in omega (arith, all)
 walked m (i.Set name ∷ more) before h e = walked m more (i.Set name ∷ before) h (step m (i.Set name) more before e).1
 walked m (i.Map name ∷ more) before h e = walked m more (i.Map name ∷ before) h (step m (i.Map name) more before e).1
 walked m (i.Vector name ∷ more) before h e = walked m more (i.Vector name ∷ before) h (step m (i.Vector name) more before e).1
@@ -67,7 +68,7 @@ walked m (i.Show name ∷ more) before h e = walked m more (i.Show name ∷ befo
 walked m (i.Input name values ∷ more) before h e = walked m more (i.Input name values ∷ before) h (step m (i.Input name values) more before e).1
 walked m (i.Task name params body ∷ more) before h e = walked m more (i.Task name params body ∷ before) h (step m (i.Task name params body) more before e).1
 
-pub heap_small : (p : Program) → IsAccepted p → heap_words p.items ≤ 2 ^ 24
+pub heap_small : (p : Program) → IsAccepted p → heap_words p.items ≤ MAX_WORDS
 heap_small p h =
     let m : Meaning = first_named p.items in
     let split = sym (flat_map-append (faults_at m) (heads_sites [] p.items) (uses_sites p.items ++ (ends p.end p.items ∷ []))) ∙ h.no_faults in

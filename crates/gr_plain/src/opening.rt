@@ -3,6 +3,7 @@ ghost use Rattle.std.specs.Prelude.{◌≡◌, ◌<◌, ◌≤◌, ◌^◌, ◌+
 ghost use Rattle.gr_lang.specs.Openings.{array_words, heap_words, input_of, objects_from, opening, padded};
 ghost use Rattle.gr_plain.specs.SizeWords.{arrays_in};
 ghost use Rattle.gr_steps.specs.HeapRanges.{IsHeap};
+ghost use Rattle.gr_syntax.specs.declared.limits.TheConstants.{MAX_WORDS};
 
 use gr_memory::{Memory, Thing};
 use gr_steps::HeapRange;
@@ -112,7 +113,7 @@ fn heap_words_of(items: &[Item]) -> u64
 /// The memory with which a run opens, and where the heap lies in it.
 #[tactic(auto, unfolding(gr_lang::specs::Openings::opening))]
 pub fn open_memory(alloc: Global, program: &Program) -> Result<(Memory, HeapRange), AllocError>
-    requires { heap_words program.now.items ≤ 2 ^ 24 }
+    requires { heap_words program.now.items ≤ MAX_WORDS }
     ensures memory { IfOk result (λ opened. opened.0 ≡ opening program.now) }
     ensures heap { IfOk result (λ opened. IsHeap opened.1 program.now) }
 {
