@@ -98,6 +98,13 @@ impl<'a> Slots<'a> {
         Ok(slot)
     }
 
+    /// The first ready slot, which stays ready; none where no slot is ready.
+    pub fn first_ready(&self) -> Option<u64>
+        ensures { result ≡ slice_get (held_in self.now).tasks.ready 0 }
+    {
+        self.ready.front().copied()
+    }
+
     /// Takes the first ready slot; none where no slot is ready.
     pub fn next_ready(&mut self) -> Option<u64>
         ensures slot { result ≡ slice_get (held_in self.old).tasks.ready 0 }

@@ -1,0 +1,5 @@
+pub mod There
+pub mod Asked
+pub mod Holding
+pub mod Giving
+pub mod Beginning

@@ -1,0 +1,15 @@
+//! The state of a core, and the outcomes that several of its events have.
+#![tactic(auto)]
+
+mod enabled;
+mod gifts;
+mod opening;
+mod shared;
+mod spawning;
+mod state;
+mod steals;
+mod waking;
+
+pub use shared::states_are_shared;
+pub use state::State;
+pub use steals::Steals;
