@@ -6,5 +6,6 @@ mod shard;
 mod shared;
 mod store;
 
+pub use shard::{is_of_map, is_of_set};
 pub use shared::stores_are_shared;
 pub use store::Store;

@@ -24,7 +24,7 @@ pub enum Shard {
 }
 
 /// Whether calls on a set have such an effect: no reducer folds, and no word but 0 is put.
-fn is_of_set(effect: Effect) -> bool
+pub fn is_of_set(effect: Effect) -> bool
     ensures value { result ≡ is_of_set effect }
     ensures allowed { result ≡ true → IsOfSet effect }
 {
@@ -36,7 +36,7 @@ fn is_of_set(effect: Effect) -> bool
 }
 
 /// Whether calls on a map have such an effect: where a reducer folds, it is one that there is.
-fn is_of_map(effect: Effect) -> bool
+pub fn is_of_map(effect: Effect) -> bool
     ensures { result ≡ is_of_map effect }
 {
     match effect {

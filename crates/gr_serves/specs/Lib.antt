@@ -1,0 +1,3 @@
+pub mod Heaps
+-- For proofs and private functions.
+pub mod ScopeWords
