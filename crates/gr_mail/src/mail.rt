@@ -1,5 +1,7 @@
 //! The mail of a core.
-ghost use Rattle.std.specs.Prelude.{◌≡◌, ◌<◌, vec_len};
+ghost use Rattle.std.specs.Prelude.{◌≡◌, ◌<◌, None, length, vec_len};
+ghost use Rattle.gr_view.specs.Places.{at_place};
+ghost use Rattle.gr_mail.specs.Ends.{known_on};
 ghost use Rattle.gr_mail.specs.EndsView.{AreEnds, HaveRoom};
 
 use gr_msg::Packet;
@@ -29,8 +31,19 @@ pub struct Mail {
     ghost rooms: { HaveRoom outs.items },
 }
 
+/// How many packets are known to be in the ring from a core; 0 where there is no ring.
+#[tactic(auto, using(gr_view::proofs::Puts::at_lists))]
+fn known_at(ins: &[Option<Consumer<Packet>>], from: usize) -> usize
+    ensures { result ≡ length (known_on (at_place None ins.now from)) }
+{
+    match ins.get(from) {
+        Some(Some(consumer)) => consumer.cached_slots(),
+        _ => 0,
+    }
+}
+
 impl Mail {
-    ghost use Rattle.std.specs.Prelude.{◌≡◌, ◌≢◌, ◌+◌, ◌<◌, ◌≤◌, ◌++◌, ◌∷◌, [], ℕ, IfNone, IfSome, option_to_list};
+    ghost use Rattle.std.specs.Prelude.{◌≡◌, ◌≢◌, ◌+◌, ◌<◌, ◌≤◌, ◌++◌, ◌∷◌, [], ℕ, IfNone, IfSome, length, option_to_list};
     ghost use Rattle.gr_view.specs.Places.{put};
     ghost use Rattle.gr_mail.specs.Rings.{IsOther, SameReceived, SameRings, SameSent, free_to, known_from, received_from, sent_to};
     ghost use Rattle.gr_mail.specs.Answers.{IsBack, IsTaken, after_sending};
@@ -78,5 +91,12 @@ impl Mail {
                 Err(_) => None,
             },
         }
+    }
+
+    /// How many packets are known to be in the ring from a core; 0 where there is no ring.
+    pub fn known(&self, from: u64) -> usize
+        ensures { result ≡ length (known_from self.now from) }
+    {
+        known_at(&self.ins, from as usize)
     }
 }
