@@ -3,6 +3,7 @@
 
 mod enabled;
 mod gifts;
+mod numbers;
 mod opening;
 mod shared;
 mod spawning;
@@ -10,6 +11,7 @@ mod state;
 mod steals;
 mod waking;
 
+pub use numbers::{counted, one_more};
 pub use shared::states_are_shared;
 pub use state::State;
 pub use steals::Steals;

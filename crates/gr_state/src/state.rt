@@ -1,9 +1,10 @@
 //! The state of a core, and the two ways in which an event tells something.
-ghost use Rattle.std.specs.Prelude.{◌≡◌, ◌+◌, IfOk, OnOk, if◌then◌else◌};
+ghost use Rattle.std.specs.Prelude.{◌≡◌, OnOk};
 ghost use Rattle.gr_machine.specs.Counting.{is_closed, is_gift};
 ghost use Rattle.gr_courses.specs.Seen.{with_mark, with_send};
 ghost use Rattle.gr_state.specs.StateView.{seen_of};
 
+use crate::numbers::counted;
 use crate::steals::Steals;
 use gr_combining::Combining;
 use gr_event::{LocalCounts, Masters};
@@ -39,13 +40,6 @@ pub struct State<'a> {
     pub done: Counts,
 }
 
-/// A number after one more. It is an error where numbers run out.
-fn one_more(count: u64) -> Result<u64, AllocError>
-    ensures { IfOk result (λ next. next ≡ count + 1) }
-{
-    count.checked_add(1).ok_or(AllocError)
-}
-
 /// Whether a message gives a unit of work.
 fn is_gift(message: &Msg) -> bool
     ensures { result ≡ is_gift message.now }
@@ -58,13 +52,6 @@ fn is_closed(mark: &Mark) -> bool
     ensures { result ≡ is_closed mark.now }
 {
     matches!(mark, Mark::Closed { .. })
-}
-
-/// So many, or one more.
-fn counted(count: u64, is_more: bool) -> Result<u64, AllocError>
-    ensures { IfOk result (λ next. next ≡ (if is_more then count + 1 else count)) }
-{
-    if is_more { one_more(count) } else { Ok(count) }
 }
 
 impl<'a> State<'a> {
