@@ -84,3 +84,97 @@ pub fn enrolments(alloc: Global, count: u64) -> Result<String, AllocError> {
     }
     format!(in alloc; "{enrolled} enrolled")
 }
+
+/// One more task, and what is answered.
+fn tell_enrol(
+    text: &mut String,
+    counts: &mut LocalCounts,
+    scope: ScopeId,
+    slot: u64,
+) -> Result<(), AllocError> {
+    if counts.count(scope).unwrap_or(0) >= MOST {
+        return Ok(());
+    }
+    let word = match counts.enrol(scope, slot)? {
+        Enrol::Counted => " counted",
+        Enrol::Ask => " ask",
+        Enrol::Waiting => " waiting",
+    };
+    text.push_str(word)?;
+    Ok(())
+}
+
+/// One task less, and what is answered.
+fn tell_complete(
+    text: &mut String,
+    counts: &mut LocalCounts,
+    scope: ScopeId,
+) -> Result<(), AllocError> {
+    let Some(count) = counts.count(scope) else {
+        return Ok(());
+    };
+    if count < 1 {
+        return Ok(());
+    }
+    let word = match counts.complete(scope, 1) {
+        LocalLeft::Zero => " zero",
+        LocalLeft::More => " more",
+    };
+    text.push_str(word)?;
+    Ok(())
+}
+
+/// The slots that waited until the core may count.
+fn tell_acked(
+    alloc: Global,
+    text: &mut String,
+    counts: &mut LocalCounts,
+    scope: ScopeId,
+) -> Result<(), AllocError> {
+    if !counts.waits(scope) {
+        return Ok(());
+    }
+    let slots = counts.acked(scope)?;
+    for slot in slots.as_slice() {
+        text.push_str(format!(in alloc; " slot {slot}")?.as_str())?;
+    }
+    Ok(())
+}
+
+/// One core less is active, and what is answered.
+fn tell_leave(text: &mut String, masters: &mut Masters, scope: ScopeId) -> Result<(), AllocError> {
+    let Some(active) = masters.active(scope) else {
+        return Ok(());
+    };
+    if active < 1 {
+        return Ok(());
+    }
+    let word = match masters.leave(scope) {
+        Release::Held => " held",
+        Release::Released { .. } => " released",
+    };
+    text.push_str(word)?;
+    Ok(())
+}
+
+/// What a scope's counts and master answer, one after another: tasks enrol and end, slots wait for the core and are
+/// counted, and cores enrol and leave.
+pub fn answers(alloc: Global) -> Result<String, AllocError> {
+    let mut counts = LocalCounts::new(alloc);
+    let mut masters = Masters::new(alloc);
+    let scope = scope(1);
+    open(&mut counts, &mut masters, scope)?;
+    let mut text = String::from_str(alloc, "answers")?;
+    tell_enrol(&mut text, &mut counts, scope, 0)?;
+    tell_complete(&mut text, &mut counts, scope)?;
+    tell_complete(&mut text, &mut counts, scope)?;
+    tell_enrol(&mut text, &mut counts, scope, 4)?;
+    tell_enrol(&mut text, &mut counts, scope, 7)?;
+    tell_acked(alloc, &mut text, &mut counts, scope)?;
+    if masters.active(scope) == Some(1) {
+        masters.enrol(scope);
+    }
+    tell_leave(&mut text, &mut masters, scope)?;
+    tell_leave(&mut text, &mut masters, scope)?;
+    Ok(text)
+}

@@ -29,6 +29,7 @@ fn answer(alloc: Global, line: &str, reducers: &Reducers) -> Result<String, Allo
     match line.split_whitespace().next() {
         Some("units") => unit_load::units(alloc, count),
         Some("indices") => unit_load::indices(alloc, count),
+        Some("parts") => unit_load::parts(alloc, count, size),
         Some("calls") => call_load::calls(alloc, count, size, reducers),
         Some("keys") => call_load::keys(alloc, count, size, reducers),
         Some("words") => word_load::words(alloc, count),
@@ -39,6 +40,7 @@ fn answer(alloc: Global, line: &str, reducers: &Reducers) -> Result<String, Allo
         Some("groups") => group_load::groups(alloc, count),
         Some("enrolments") => count_load::enrolments(alloc, count),
         Some("scopes") => count_load::scopes(alloc, count),
+        Some("answers") => count_load::answers(alloc),
         _ => String::from_str(alloc, "no such load"),
     }
 }

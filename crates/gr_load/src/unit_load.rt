@@ -84,8 +84,9 @@ pub fn units(alloc: Global, count: u64) -> Result<String, AllocError> {
     format!(in alloc; "{units} units, sum {sum}")
 }
 
-fn chunk(alloc: Global, lo: u64, hi: u64) -> Unit
-    requires { lo < hi }
+fn chunk(alloc: Global, lo: u64, hi: u64, grain: u64) -> Unit
+    requires indices { lo < hi }
+    requires grain { 0 < grain }
     ensures { CanBeSplit result }
 {
     Unit::Chunk {
@@ -96,7 +97,7 @@ fn chunk(alloc: Global, lo: u64, hi: u64) -> Unit
         owner: OWNER,
         lo,
         hi,
-        grain: 1,
+        grain,
     }
 }
 
@@ -104,7 +105,7 @@ fn chunk(alloc: Global, lo: u64, hi: u64) -> Unit
 fn begin(alloc: Global, work: &mut Work, unit: Unit, taken: Taken) -> Result<Taken, AllocError> {
     match unit {
         Unit::Chunk { lo, hi, .. } if hi > lo && hi - lo > 1 => {
-            work.split(chunk(alloc, lo, hi))?;
+            work.split(chunk(alloc, lo, hi, 1))?;
             Ok(taken)
         }
         other => Ok(taken.and(&other)),
@@ -116,7 +117,7 @@ pub fn indices(alloc: Global, count: u64) -> Result<String, AllocError> {
     let mut work = Work::new(alloc);
     let mut taken = Taken { units: 0, sum: 0 };
     if count > 0 {
-        work.push_last(chunk(alloc, 0, count))?;
+        work.push_last(chunk(alloc, 0, count, 1))?;
     }
     for _ in 0..count {
         for _ in 0..2u8 {
@@ -128,4 +129,36 @@ pub fn indices(alloc: Global, count: u64) -> Result<String, AllocError> {
     let units = taken.units;
     let sum = taken.sum;
     format!(in alloc; "{units} indices, sum {sum}")
+}
+
+/// The indices of a unit, which is a chunk.
+fn range(alloc: Global, unit: &Unit) -> Result<String, AllocError> {
+    match unit {
+        Unit::Single { target, .. } => format!(in alloc; "task {target}"),
+        Unit::Chunk { lo, hi, .. } => format!(in alloc; "{lo} to {hi}"),
+    }
+}
+
+/// The parts into which a loop of so many indices is split with a grain: what is kept, and what is given one after
+/// another.
+pub fn parts(alloc: Global, count: u64, grain: u64) -> Result<String, AllocError> {
+    let mut work = Work::new(alloc);
+    if count > 0 && grain > 0 {
+        work.split(chunk(alloc, 0, count, grain))?;
+    }
+    let mut text = String::from_str(alloc, "given")?;
+    for _ in 0..WAITING {
+        if let Some(unit) = work.give() {
+            let range = range(alloc, &unit)?;
+            text.push_str(format!(in alloc; " {},", range.as_str())?.as_str())?;
+        }
+    }
+    match work.next() {
+        Some(unit) => text.push_str(format!(in alloc;
+            " kept {}",
+            range(alloc, &unit)?.as_str()
+        )?.as_str())?,
+        None => text.push_str(" nothing kept")?,
+    }
+    Ok(text)
 }
