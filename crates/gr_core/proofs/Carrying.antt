@@ -10,7 +10,7 @@ use Rattle.gr_machine.specs.declared.event.Event.TheVariants as event
 use Rattle.gr_machine.specs.Events.{Packet}
 use Rattle.gr_mail.specs.declared.mail.Mail.{Mail}
 use Rattle.gr_mail.specs.Rings.{SameReceived, SameRings, SameSent, received_from, sent_to}
-use Rattle.gr_mail.proofs.Ends.{all_same_consumers, all_same_producers}
+use Rattle.gr_mail.proofs.Mails.{rings_self}
 use Rattle.gr_core.specs.CoreView.{Carries}
 use Rattle.gr_core.specs.Runs.{Run, Made, stepped}
 
@@ -36,11 +36,7 @@ close_carries mail run last object carries made = carries_stepped mail run last 
 pub steal_carries : (mail : Mail) (run last : Run) (victim : ℕ) → Carries mail run → Made run (event.Steal victim) last → Carries mail last
 steal_carries mail run last victim carries made = carries_stepped mail run last (event.Steal victim) made carries refl refl
 
--- The rings are the same ones where nothing was done with them.
-pub same_rings : (mail : Mail) → SameRings mail mail
-same_rings mail = record { owner = refl; cores = refl; outs = all_same_producers mail.outs.items; ins = all_same_consumers mail.ins.items }
-
-pub ruleset inner_carried = (serve_carries, run_carries, close_carries, steal_carries, same_rings)
+pub ruleset inner_carried = (serve_carries, run_carries, close_carries, steal_carries, rings_self)
 
 -- What crosses
 

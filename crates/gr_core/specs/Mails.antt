@@ -1,12 +1,25 @@
--- The mail with which a core begins.
-use Rattle.std.specs.Prelude.{◌≡◌, ℕ}
+-- The mail of a core: as it begins, and where it lets an event wait.
+use Rattle.std.specs.Prelude.{◌≡◌, ℕ, Bool, true, false, []}
 use Rattle.gr_machine.specs.declared.setup.Setup.{Setup}
 use Rattle.gr_mail.specs.declared.mail.Mail.{Mail}
 use Rattle.gr_mail.specs.Boxes.{IsNew}
-use Rattle.gr_mail.specs.Rings.{cores, owner}
+use Rattle.gr_mail.specs.Rings.{cores, free_to, known_from, owner}
+use Rattle.gr_machine.specs.declared.event.Event.{Event}
+use Rattle.gr_machine.specs.declared.event.Event.TheVariants as event
 
 -- The mail of a core of this number, over which nothing was sent.
 pub record IsUnused (setup : Setup) (me : ℕ) (mail : Mail) : Type 0 where
   pub owner : owner mail ≡ me
   pub cores : cores mail ≡ setup.cores
   pub new : IsNew mail
+
+-- No packet that a Take could take is known, or no room for one that a Ship could ship. No other event waits.
+abbrev pub HasToWait : Mail → Event → Type 0
+HasToWait mail (event.Take from) = known_from mail from ≡ []
+HasToWait mail (event.Ship dest) = free_to mail dest ≡ 0
+HasToWait mail _ = ⊥
+
+-- An event that wasn't made had to wait.
+abbrev pub WaitsUnless : Bool → Mail → Event → Type 0
+WaitsUnless true mail what = Unit {0}
+WaitsUnless false mail what = HasToWait mail what

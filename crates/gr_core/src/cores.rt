@@ -90,7 +90,7 @@ impl<'a> Core<'a> {
     ghost use Rattle.gr_mail.specs.Rings.{AreJoined, HaveMet, LookedAt, SameRings, cores, known_from, owner};
     ghost use Rattle.gr_view.specs.Places.{at_place};
     ghost use Rattle.gr_core.specs.Cores.{mail_of, run_of};
-    ghost use Rattle.gr_core.specs.Mails.{IsUnused};
+    ghost use Rattle.gr_core.specs.Mails.{IsUnused, WaitsUnless};
     ghost use Rattle.gr_core.specs.Runs.{MadeOr, end_of, opened_run};
 
     /// The core of this number before its first event, with mail over which nothing was sent. It is an error where the
@@ -141,6 +141,8 @@ impl<'a> Core<'a> {
         requires { let s = (run_of self).seen in enabled s.machine s.me s.core event ≡ true }
         ensures made { IfOk result (λ stepped.
             MadeOr (run_of self.entry) event (run_of stepped.core) stepped.done) }
+        ensures waits { IfOk result (λ stepped.
+            WaitsUnless stepped.done (mail_of self.entry) event) }
         ensures rings { IfOk result (λ stepped. SameRings (mail_of self.entry) (mail_of stepped.core)) }
     {
         let Core {

@@ -5,6 +5,7 @@ ghost use Rattle.gr_machine.specs.declared.event.Event.TheVariants as event;
 ghost use Rattle.gr_mail.specs.Rings.{SameRings};
 ghost use Rattle.gr_serves.specs.Heaps.{KnowsHeap};
 ghost use Rattle.gr_core.specs.CoreView.{Carries, run_in};
+ghost use Rattle.gr_core.specs.Mails.{WaitsUnless};
 ghost use Rattle.gr_core.specs.Runs.{IsRun, MadeOr};
 
 use crate::running::Running;
@@ -21,6 +22,7 @@ fn take(mail: &mut Mail, running: &mut Running, from: u64) -> Result<bool, Alloc
     requires carries { Carries mail.old (run_in running.old) }
     ensures made { IfOk result (λ done.
         MadeOr (run_in running.old) (event.Take from) (run_in running.new) done) }
+    ensures waits { IfOk result (λ done. WaitsUnless done mail.old (event.Take from)) }
     ensures carries { OnOk result (Carries mail.new (run_in running.new)) }
     ensures rings { OnOk result (SameRings mail.old mail.new) }
 {
@@ -42,6 +44,7 @@ fn ship(mail: &mut Mail, running: &mut Running, dest: u64) -> Result<bool, Alloc
     requires carries { Carries mail.old (run_in running.old) }
     ensures made { IfOk result (λ done.
         MadeOr (run_in running.old) (event.Ship dest) (run_in running.new) done) }
+    ensures waits { IfOk result (λ done. WaitsUnless done mail.old (event.Ship dest)) }
     ensures carries { OnOk result (Carries mail.new (run_in running.new)) }
     ensures rings { OnOk result (SameRings mail.old mail.new) }
 {
@@ -71,6 +74,7 @@ pub fn make(
     requires carries { Carries mail.old (run_in running.old) }
     ensures made { IfOk result (λ done.
         MadeOr (run_in running.old) event (run_in running.new) done) }
+    ensures waits { IfOk result (λ done. WaitsUnless done mail.old event) }
     ensures carries { OnOk result (Carries mail.new (run_in running.new)) }
     ensures rings { OnOk result (SameRings mail.old mail.new) }
 {

@@ -1,5 +1,5 @@
 //! The packets that a core took from each core, or shipped to each.
-ghost use Rattle.std.specs.Prelude.{◌≡◌, [], IfOk, OnOk};
+ghost use Rattle.std.specs.Prelude.{◌≡◌, [], IfOk, OnOk, length};
 ghost use Rattle.gr_view.specs.Places.{at_place};
 ghost use Rattle.gr_merge.specs.Machines.{with_last};
 
@@ -9,7 +9,8 @@ use std::alloc::{AllocError, Global};
 
 /// No packets of so many cores.
 pub fn no_packets(alloc: Global, cores: u64) -> Result<Vec<Packets>, AllocError>
-    ensures { IfOk result (λ lists. at_place [] lists.items ≡ (λ core. [])) }
+    ensures len { IfOk result (λ lists. length lists.items ≡ cores) }
+    ensures empty { IfOk result (λ lists. at_place [] lists.items ≡ (λ core. [])) }
 {
     let mut lists = Vec::new(alloc);
     'cores: for _ in 0..cores {

@@ -20,7 +20,7 @@ invariant_of-result c =
       sent = at_place [] c.in_ok-sent.sent.items;
     } in
     let is : run ≡ opened_run machine c.args.me heap c.in_ok-state.first =
-    opened_is machine c.args.me c.in_ok-state.first (seen_of c.in_ok-state.state) c.new.result run.received run.sent c.in_ok-state.ensures.seen c.new.ensures c.in_ok-received.ensures c.in_ok-sent.ensures in
+    opened_is machine c.args.me c.in_ok-state.first (seen_of c.in_ok-state.state) c.new.result run.received run.sent c.in_ok-state.ensures.seen c.new.ensures c.in_ok-received.ensures.empty c.in_ok-sent.ensures.empty in
     record {
       runs = opened_runs machine c.args.me c.in_ok-state.first heap run c.requires.core is;
       heap = opened_heap machine c.args.me c.in_ok-state.first heap run is c.in_ok-state.ensures.heap;
