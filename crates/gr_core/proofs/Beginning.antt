@@ -5,12 +5,11 @@ use Rattle.std.proofs.lemmas.Bool.Decides.{nat_tests}
 use Rattle.gr_lang.specs.Objects.{Heap}
 use Rattle.gr_mail.specs.declared.mail.Mail.{Mail}
 use Rattle.gr_machine.specs.declared.journal.Stamped.{Stamped}
-use Rattle.gr_machine.specs.declared.setup.Setup.{Setup}
 use Rattle.gr_machine.specs.Events.{Packet}
 use Rattle.gr_machine.specs.Openings.{opening_core}
 use Rattle.gr_courses.specs.Seen.{Seen}
 use Rattle.gr_state.specs.Opened.{before_all}
-use Rattle.gr_machine.specs.Machines.{Machine, is_core}
+use Rattle.gr_machine.specs.Machines.{Machine}
 use Rattle.gr_serves.specs.Heaps.{KnowsHeap}
 use Rattle.gr_core.specs.CoreView.{Carries}
 use Rattle.gr_core.specs.Mails.{IsUnused}

@@ -1,6 +1,5 @@
 -- The rings carry the packets of the run.
-use Rattle.std.proofs.Common.{◌≡◌, ◌≢◌, ◌<◌, ℕ, List, [], ◌∷◌, ◌++◌, ap, ◌∙◌, sym, refl, subst}
-use Rattle.std.specs.Prelude.{Bool, true, false, Option, Some, None}
+use Rattle.std.proofs.Common.{◌≡◌, ℕ, List, [], ◌∷◌, ◌++◌, ap, ◌∙◌, sym, refl, subst}
 use Rattle.std.proofs.lemmas.List.{append-nil}
 use Rattle.gr_view.specs.Places.{put}
 use Rattle.gr_view.proofs.Puts.{put_by}

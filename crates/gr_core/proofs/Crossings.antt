@@ -1,12 +1,11 @@
 -- Take and Ship are core steps.
-use Rattle.std.proofs.Common.{◌≡◌, ◌+◌, ◌<◌, ◌≤◌, ℕ, List, [], ◌∷◌, ◌++◌, length, ap, ◌∙◌, sym, refl, subst, arith}
-use Rattle.std.specs.Prelude.{Bool, true, false, Option, Some, None, if◌then◌else◌, max, nat_lt, nat_le, min, not, ◌&&◌, ◌||◌, ◌==◌}
+use Rattle.std.proofs.Common.{◌≡◌, ◌+◌, ◌<◌, ◌≤◌, ℕ, List, [], length, ap, ◌∙◌, sym, refl, subst, arith}
+use Rattle.std.specs.Prelude.{Bool, true, false, Some, None, if◌then◌else◌, max, nat_lt, nat_le, min, not, ◌&&◌, ◌||◌, ◌==◌}
 use Rattle.std.proofs.lemmas.Bool.Decides.{nat_tests}
 use Rattle.std.proofs.lemmas.List.{append-nil, length-take}
 use Rattle.gr_merge.specs.Machines.{with_last}
 use Rattle.gr_lang.specs.Expressions.{number_of}
 use Rattle.gr_machine.specs.declared.counts.Counts.{Counts}
-use Rattle.gr_machine.specs.declared.event.Event.{Event}
 use Rattle.gr_machine.specs.declared.event.Event.TheVariants as event
 use Rattle.gr_machine.specs.declared.journal.StampedMark.{StampedMark}
 use Rattle.gr_machine.specs.States.{Core}
@@ -15,7 +14,7 @@ use Rattle.gr_machine.specs.Enabled.{can, can_go, enabled, is_halted, is_idle, i
 use Rattle.gr_machine.specs.Machines.{is_core}
 use Rattle.gr_msg.specs.declared.opened.TheConstants.{MAX_CLOCK}
 use Rattle.gr_posts.specs.Posts.{IsSetup}
-use Rattle.gr_machine.specs.Events.{Packet, Transition, begun, came_of, happens, packet_to, received, shipped, ticked}
+use Rattle.gr_machine.specs.Events.{Packet, Transition, begun, came_of, packet_to, received, shipped, ticked}
 use Rattle.gr_courses.specs.Seen.{Seen, ticked_to}
 use Rattle.gr_courses.proofs.Steps.{counted_is, step_is, take_is}
 use Rattle.gr_core.specs.EntryWords.{delivered_to, noted, unloaded, with_packet, with_seen}

@@ -1,15 +1,14 @@
 -- A run goes on by each core step.
-use Rattle.std.proofs.Common.{◌≡◌, ◌+◌, ℕ, List, [], ◌∷◌, ◌++◌, ap, ◌∙◌, sym, refl, subst}
+use Rattle.std.proofs.Common.{◌≡◌, ℕ, List, [], ◌∷◌, ap, sym, refl, subst}
 use Rattle.std.specs.Prelude.{Bool, true, false, Option, Some, None, if◌then◌else◌, max}
-use Rattle.gr_merge.specs.Machines.{inner, takes, ships}
 use Rattle.gr_merge.proofs.Joins.{inner_goes_on, take_goes_on, ship_goes_on}
 use Rattle.gr_machine.specs.declared.event.Event.{Event}
 use Rattle.gr_machine.specs.declared.event.Event.TheVariants as event
 use Rattle.gr_machine.specs.declared.journal.Stamped.{Stamped}
-use Rattle.gr_machine.specs.Machines.{Machine, is_core}
+use Rattle.gr_machine.specs.Machines.{Machine}
 use Rattle.gr_machine.specs.States.{Core}
 use Rattle.gr_machine.specs.Enabled.{enabled}
-use Rattle.gr_machine.specs.Events.{Packet, Transition, are_free, begun, came_of, closed, core_step, happens, packet_to, ran, received, served, shipped, slot_of, slots_needed, steps_to, stolen, ticked}
+use Rattle.gr_machine.specs.Events.{Packet, Transition, are_free, begun, came_of, core_step, happens, packet_to, received, slot_of, slots_needed, steps_to, ticked}
 use Rattle.gr_machine.specs.Steppers.{CountedCore, stepper, unused_core, went_on}
 use Rattle.gr_courses.proofs.Steps.{inner_entry, ship_entry, take_entry}
 use Rattle.gr_machine.specs.LocalRuns.{IsLocalRun}

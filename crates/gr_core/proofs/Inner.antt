@@ -1,18 +1,17 @@
 -- The events that are inner to a core are core steps.
-use Rattle.std.proofs.Common.{◌≡◌, ◌+◌, ℕ, List, [], ◌∷◌, ◌++◌, ap, ◌∙◌, sym, refl, subst}
-use Rattle.std.specs.Prelude.{Bool, true, false, Option, Some, None, if◌then◌else◌}
+use Rattle.std.proofs.Common.{◌≡◌, ℕ, List, [], ◌∷◌, ◌++◌, ap, ◌∙◌, sym, refl, subst}
+use Rattle.std.specs.Prelude.{Bool, true, Option, Some, None}
 use Rattle.gr_machine.specs.declared.counts.Counts.{Counts}
 use Rattle.gr_machine.specs.declared.event.Event.{Event}
 use Rattle.gr_machine.specs.declared.event.Event.TheVariants as event
-use Rattle.gr_machine.specs.declared.journal.StampedMark.{StampedMark}
-use Rattle.gr_machine.specs.States.{Letter, Core}
+use Rattle.gr_machine.specs.States.{Letter}
 use Rattle.gr_machine.specs.Enabled.{enabled}
 use Rattle.gr_machine.specs.Closes.{closes}
 use Rattle.gr_machine.specs.Outcomes.{Outcome}
 use Rattle.gr_machine.specs.Serves.{serves, settles}
 use Rattle.gr_machine.specs.Runs.{first_unit, run_slot, run_unit, without_ready, without_unit}
-use Rattle.gr_machine.specs.Counting.{calls_next, counted}
-use Rattle.gr_machine.specs.Events.{Course, Transition, asks, gives, are_free, came_of, closed, happens, ran, served, slot_of, slots_needed, stolen, ticked}
+use Rattle.gr_machine.specs.Counting.{calls_next}
+use Rattle.gr_machine.specs.Events.{Course, Transition, asks, gives, are_free, came_of, closed, happens, ran, served, slot_of, slots_needed, stolen}
 use Rattle.gr_machine.specs.Steppers.{stamped}
 use Rattle.gr_courses.specs.Courses.{gives_to, served_from, ran_from, without_letter}
 use Rattle.gr_courses.specs.Seen.{Seen, after, does_to, done_by, ticked_to, with_body}

@@ -1,5 +1,5 @@
 -- What a core as the code's struct keeps it stands for.
-use Rattle.std.specs.Prelude.{◌≡◌, ℕ, []}
+use Rattle.std.specs.Prelude.{◌≡◌, []}
 use Rattle.gr_view.specs.Places.{at_place}
 use Rattle.gr_mail.specs.declared.mail.Mail.{Mail}
 use Rattle.gr_mail.specs.Rings.{cores, owner, received_from, sent_to}

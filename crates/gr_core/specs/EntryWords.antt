@@ -1,6 +1,5 @@
 -- What the parts of an event make of a core with its journal.
-use Rattle.std.specs.Prelude.{ℕ, ◌+◌, Bool, nat_lt, if◌then◌else◌, List, [], ◌∷◌, ◌++◌, drop}
-use Rattle.gr_view.specs.Places.{put}
+use Rattle.std.specs.Prelude.{ℕ, ◌+◌, Bool, nat_lt, if◌then◌else◌, List, [], ◌∷◌, ◌++◌}
 use Rattle.gr_machine.specs.declared.event.Event.{Event}
 use Rattle.gr_machine.specs.Events.{Packet, received, shipped}
 use Rattle.gr_courses.specs.Seen.{Seen}

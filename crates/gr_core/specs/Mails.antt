@@ -1,9 +1,10 @@
--- The mail of a core: as it begins, and where it lets an event wait.
-use Rattle.std.specs.Prelude.{◌≡◌, ℕ, Bool, true, false, []}
+-- The mail of a core: as it begins, where it lets an event wait, and what an event leaves of it.
+use Rattle.std.specs.Prelude.{◌≡◌, ◌++◌, ℕ, Bool, true, false, []}
+use mathlib.Core.List.{IsPrefix}
 use Rattle.gr_machine.specs.declared.setup.Setup.{Setup}
 use Rattle.gr_mail.specs.declared.mail.Mail.{Mail}
 use Rattle.gr_mail.specs.Boxes.{IsNew}
-use Rattle.gr_mail.specs.Rings.{cores, free_to, known_from, owner}
+use Rattle.gr_mail.specs.Rings.{cores, free_to, known_from, owner, received_from}
 use Rattle.gr_machine.specs.declared.event.Event.{Event}
 use Rattle.gr_machine.specs.declared.event.Event.TheVariants as event
 
@@ -23,3 +24,12 @@ HasToWait mail _ = ⊥
 abbrev pub WaitsUnless : Bool → Mail → Event → Type 0
 WaitsUnless true mail what = Unit {0}
 WaitsUnless false mail what = HasToWait mail what
+
+-- What was received from each core and what is known to be under way from there only grow together.
+abbrev pub NoneForgotten : Mail → Mail → Type 0
+NoneForgotten before after = (core : ℕ) → IsPrefix (received_from before core ++ known_from before core) (received_from after core ++ known_from after core)
+
+-- Where nothing was made the same packets and as many free slots are known.
+abbrev pub SameKnownUnless : Bool → Mail → Mail → Type 0
+SameKnownUnless true before after = Unit {0}
+SameKnownUnless false before after = (known_from after ≡ known_from before) × (free_to after ≡ free_to before)

@@ -1,5 +1,5 @@
 -- A core with its journal: what it has come to, and what it comes to by one entry more.
-use Rattle.std.specs.Prelude.{◌≡◌, ℕ, Bool, true, false, List, [], ◌∷◌, ◌++◌, Option, Some, None}
+use Rattle.std.specs.Prelude.{◌≡◌, ℕ, Bool, true, false, List, [], ◌∷◌, ◌++◌, Option, Some}
 use Rattle.gr_lang.specs.Objects.{Heap}
 use Rattle.gr_merge.specs.LocalRuns.{ended}
 use Rattle.gr_merge.specs.Machines.{with_last}

@@ -90,7 +90,7 @@ impl<'a> Core<'a> {
     ghost use Rattle.gr_mail.specs.Rings.{AreJoined, HaveMet, LookedAt, SameRings, cores, known_from, owner};
     ghost use Rattle.gr_view.specs.Places.{at_place};
     ghost use Rattle.gr_core.specs.Cores.{mail_of, run_of};
-    ghost use Rattle.gr_core.specs.Mails.{IsUnused, WaitsUnless};
+    ghost use Rattle.gr_core.specs.Mails.{IsUnused, NoneForgotten, SameKnownUnless, WaitsUnless};
     ghost use Rattle.gr_core.specs.Runs.{MadeOr, end_of, opened_run};
 
     /// The core of this number before its first event, with mail over which nothing was sent. It is an error where the
@@ -144,6 +144,10 @@ impl<'a> Core<'a> {
         ensures waits { IfOk result (λ stepped.
             WaitsUnless stepped.done (mail_of self.entry) event) }
         ensures rings { IfOk result (λ stepped. SameRings (mail_of self.entry) (mail_of stepped.core)) }
+        ensures kept { IfOk result (λ stepped.
+            NoneForgotten (mail_of self.entry) (mail_of stepped.core)) }
+        ensures same { IfOk result (λ stepped.
+            SameKnownUnless stepped.done (mail_of self.entry) (mail_of stepped.core)) }
     {
         let Core {
             mut mail,
@@ -171,8 +175,24 @@ impl<'a> Core<'a> {
         ensures looked { LookedAt (owner (mail_of other.old)) (mail_of one.old) (mail_of one.new) }
         ensures back { LookedAt (owner (mail_of one.old)) (mail_of other.old) (mail_of other.new) }
         ensures met { HaveMet (mail_of one.new) (mail_of other.new) × HaveMet (mail_of other.new) (mail_of one.new) }
+        ensures kept { NoneForgotten (mail_of one.old) (mail_of one.new) }
+        ensures kept_back { NoneForgotten (mail_of other.old) (mail_of other.new) }
     {
         meet(&mut one.mail, &mut other.mail)
+    }
+
+    /// The number of the core.
+    pub fn me(&self) -> u64
+        ensures { result ≡ (run_of self.now).seen.me }
+    {
+        self.running.state.posts.me()
+    }
+
+    /// The number of cores.
+    pub fn cores(&self) -> u64
+        ensures { result ≡ (run_of self.now).seen.machine.setup.cores }
+    {
+        self.running.state.posts.setup().cores
     }
 
     /// The clock.

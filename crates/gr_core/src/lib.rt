@@ -6,5 +6,7 @@ mod crossing;
 mod making;
 mod packets;
 mod running;
+mod shared;
 
 pub use cores::{Core, Stepped};
+pub use shared::cores_are_sent;

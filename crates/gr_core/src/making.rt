@@ -5,7 +5,7 @@ ghost use Rattle.gr_machine.specs.declared.event.Event.TheVariants as event;
 ghost use Rattle.gr_mail.specs.Rings.{SameRings};
 ghost use Rattle.gr_serves.specs.Heaps.{KnowsHeap};
 ghost use Rattle.gr_core.specs.CoreView.{Carries, run_in};
-ghost use Rattle.gr_core.specs.Mails.{WaitsUnless};
+ghost use Rattle.gr_core.specs.Mails.{NoneForgotten, SameKnownUnless, WaitsUnless};
 ghost use Rattle.gr_core.specs.Runs.{IsRun, MadeOr};
 
 use crate::running::Running;
@@ -15,7 +15,7 @@ use gr_reduce::Reducers;
 use std::alloc::AllocError;
 
 /// Takes the next packet of another core; false, and nothing has changed, where none is known to be there.
-#[tactic(auto, using(crate::proofs::Carrying::carried))]
+#[tactic(auto, using(crate::proofs::Carrying::carried, crate::proofs::Keeping::keeps))]
 fn take(mail: &mut Mail, running: &mut Running, from: u64) -> Result<bool, AllocError>
     requires enabled { let s = (run_in running.old).seen in
         enabled s.machine s.me s.core (event.Take from) ≡ true }
@@ -25,6 +25,8 @@ fn take(mail: &mut Mail, running: &mut Running, from: u64) -> Result<bool, Alloc
     ensures waits { IfOk result (λ done. WaitsUnless done mail.old (event.Take from)) }
     ensures carries { OnOk result (Carries mail.new (run_in running.new)) }
     ensures rings { OnOk result (SameRings mail.old mail.new) }
+    ensures kept { OnOk result (NoneForgotten mail.old mail.new) }
+    ensures same { IfOk result (λ done. SameKnownUnless done mail.old mail.new) }
 {
     let found = mail.take(from);
     match found {
@@ -37,7 +39,7 @@ fn take(mail: &mut Mail, running: &mut Running, from: u64) -> Result<bool, Alloc
 }
 
 /// Ships a packet to another core; false, and nothing has changed, where no room for it is known.
-#[tactic(auto, using(crate::proofs::Carrying::carried))]
+#[tactic(auto, using(crate::proofs::Carrying::carried, crate::proofs::Keeping::keeps))]
 fn ship(mail: &mut Mail, running: &mut Running, dest: u64) -> Result<bool, AllocError>
     requires enabled { let s = (run_in running.old).seen in
         enabled s.machine s.me s.core (event.Ship dest) ≡ true }
@@ -47,6 +49,8 @@ fn ship(mail: &mut Mail, running: &mut Running, dest: u64) -> Result<bool, Alloc
     ensures waits { IfOk result (λ done. WaitsUnless done mail.old (event.Ship dest)) }
     ensures carries { OnOk result (Carries mail.new (run_in running.new)) }
     ensures rings { OnOk result (SameRings mail.old mail.new) }
+    ensures kept { OnOk result (NoneForgotten mail.old mail.new) }
+    ensures same { IfOk result (λ done. SameKnownUnless done mail.old mail.new) }
 {
     let packet = running.pack(dest)?;
     let kept = packet.copy()?;
@@ -61,7 +65,7 @@ fn ship(mail: &mut Mail, running: &mut Running, dest: u64) -> Result<bool, Alloc
 
 /// Makes an event that the core may make; false, and nothing has changed, where no packet to be taken is known, or no
 /// room for one that is to be shipped.
-#[tactic(auto, using(crate::proofs::Carrying::inner_carried))]
+#[tactic(auto, using(crate::proofs::Carrying::inner_carried, crate::proofs::Keeping::all_kept))]
 pub fn make(
     mail: &mut Mail,
     running: &mut Running,
@@ -77,6 +81,8 @@ pub fn make(
     ensures waits { IfOk result (λ done. WaitsUnless done mail.old event) }
     ensures carries { OnOk result (Carries mail.new (run_in running.new)) }
     ensures rings { OnOk result (SameRings mail.old mail.new) }
+    ensures kept { OnOk result (NoneForgotten mail.old mail.new) }
+    ensures same { IfOk result (λ done. SameKnownUnless done mail.old mail.new) }
 {
     match event {
         Event::Take { from } => take(mail, running, from),

@@ -1,6 +1,7 @@
 -- Tree sets and tree maps with numbers as keys, seen as finite sets and finite maps.
-use Rattle.std.proofs.Common.{◌≡◌, ℕ, ◌+◌, List, [], ◌∷◌, Bool, true, false, not, ◌&&◌, ◌||◌, Option, Some, None, refl, sym, ap, ◌∙◌, cond, length, add-one}
-use Rattle.std.specs.Ordering.{nat_cmp, eq_by_cmp, is_eq}
+use Rattle.std.specs.Prelude.{T, map as map_list}
+use Rattle.std.proofs.Common.{◌≡◌, ℕ, ◌+◌, List, [], ◌∷◌, Bool, true, false, not, ◌&&◌, ◌||◌, Option, Some, None, refl, sym, ap, ◌∙◌, cond, subst, length, add-one}
+use Rattle.std.specs.Ordering.{nat_cmp, eq_by_cmp, is_eq, is_lt}
 use Rattle.std.specs.declared.cmp.Ordering.TheVariants.{Less}
 use Rattle.std.specs.List.{AllByRecursion}
 use Rattle.std.specs.List.Sorted.{IsStrictlySortedBy}
@@ -11,6 +12,8 @@ use Rattle.std.specs.FinMap as map
 use Rattle.std.specs.FinSet as set
 use Rattle.std.specs.Map.{lookup}
 use Rattle.std.specs.BTreeMap.{is_at}
+use Rattle.std.specs.FinMap.Entries.{below_all, is_sorted}
+use Rattle.gr_memory.specs.Contents.{rising}
 
 pub has_key : (ks : List ℕ) (q : ℕ) → set.contains (set.from_list {R = nat_cmp} ks) q ≡ list_any (is_at (nat_cmp q)) ks
 has_key ks q = set.contains-from_list nat_cmp_total ks q
@@ -66,3 +69,51 @@ pub take_pair : (es fs : List (ℕ × ℕ)) (k : ℕ) → ((q : ℕ) → at_key 
 take_pair es fs k h = map.same_map nat_cmp_total map.nat_cmp-IsAntisymmetric _ _ (λ q.
     get_key fs q ∙ h q ∙ ap (λ b. cond b None (at_key es q)) ((eq_by_cmp_equiv nat_cmp_total).symm k q)
     ∙ sym (map.get-remove nat_cmp_total (map.from_entries es) k q ∙ ap (cond (eq_by_cmp nat_cmp q k) None) (get_key es q)))
+
+-- Trees keep their keys in rising order.
+
+both : (a b : Bool) → T a → T b → T (a && b)
+both true b p q = q
+both false b p q = p
+
+below : {X : Type 0} (k : ℕ) (es : List (ℕ × X)) → AllByRecursion (λ q. nat_cmp k q ≡ Less) (map_list (λ e. e.0) es) → T (below_all nat_cmp k es)
+below k [] h = tt
+below k (e ∷ es) h = both _ _ (subst (λ r. T (is_lt r)) (sym h.0) tt) (below k es h.1)
+
+in_order : {X : Type 0} (es : List (ℕ × X)) → IsStrictlySortedBy nat_cmp (map_list (λ e. e.0) es) → T (is_sorted nat_cmp es)
+unfolding IsStrictlySortedBy
+in_order [] h = tt
+in_order (e ∷ es) h = both _ _ (below e.0 es h.0) (in_order es h.1)
+
+pub entries_are : {X : Type 0} (es : List (ℕ × X)) → IsStrictlySortedBy nat_cmp (map_list (λ e. e.0) es) → map.entries (map.from_entries {R = nat_cmp} es) ≡ es
+entries_are es h =
+    ap map.entries (map.same_map nat_cmp_total map.nat_cmp-IsAntisymmetric _ _ (λ q. map.get-from_entries nat_cmp_total es q ∙ sym (map.get-from_sorted nat_cmp es q (in_order es h))))
+    ∙ map.entries-from_sorted nat_cmp es (in_order es h)
+
+abbrev marked : List ℕ → List (ℕ × Unit {0})
+marked ks = map_list (λ k. (k, tt {0})) ks
+
+marked_keys : (ks : List ℕ) → map_list (λ (e : ℕ × Unit {0}). e.0) (marked ks) ≡ ks
+marked_keys [] = refl
+marked_keys (k ∷ ks) = ap (λ rest. k ∷ rest) (marked_keys ks)
+
+some_or : (b x : Bool) → cond b (Some (tt {0})) (cond x (Some (tt {0})) None) ≡ cond (b || x) (Some (tt {0})) None
+some_or true x = refl
+some_or false x = refl
+
+find_marked : (ks : List ℕ) (q : ℕ) → map.find nat_cmp q (marked ks) ≡ cond (list_any (eq_by_cmp nat_cmp q) ks) (Some (tt {0})) None
+find_marked [] q = refl
+find_marked (k ∷ ks) q = ap (cond (eq_by_cmp nat_cmp q k) (Some (tt {0}))) (find_marked ks q) ∙ some_or (eq_by_cmp nat_cmp q k) (list_any (eq_by_cmp nat_cmp q) ks)
+
+same_marked : (ks ls : List ℕ) → ((q : ℕ) → list_any (eq_by_cmp nat_cmp q) ks ≡ list_any (eq_by_cmp nat_cmp q) ls) → map.from_entries {R = nat_cmp} (marked ks) ≡ map.from_entries (marked ls)
+same_marked ks ls h = map.same_map nat_cmp_total map.nat_cmp-IsAntisymmetric _ _ (λ q.
+    map.get-from_entries nat_cmp_total (marked ks) q ∙ find_marked ks q ∙ ap (λ b. cond b (Some (tt {0})) None) (h q)
+    ∙ sym (map.get-from_entries nat_cmp_total (marked ls) q ∙ find_marked ls q))
+
+-- The words of a set in rising order are the keys of its tree.
+pub keys_are : (ks : List ℕ) → IsStrictlySortedBy nat_cmp ks → rising (set.items (set.from_list {R = nat_cmp} ks)) ≡ ks
+unfolding rising
+keys_are ks h =
+    ap (λ m. map.keys m) (same_marked (set.items (set.from_list {R = nat_cmp} ks)) ks (λ q. sym (set.contains-items (set.from_list ks) q) ∙ set.contains-from_list nat_cmp_total ks q))
+    ∙ ap (map_list (λ (e : ℕ × Unit {0}). e.0)) (entries_are (marked ks) (subst (IsStrictlySortedBy nat_cmp) (sym (marked_keys ks)) h))
+    ∙ marked_keys ks

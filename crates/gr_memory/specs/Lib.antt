@@ -1,4 +1,5 @@
 pub mod Ranges
+pub mod Contents
 -- For proofs and private functions.
 pub mod ThingView
 pub mod MemoryView

@@ -3,9 +3,11 @@ ghost use Rattle.std.specs.Prelude.{◌≡◌, ◌+◌, ◌≤◌, ◌<◌, ◌^
 ghost use Rattle.gr_syntax.specs.declared.limits.TheConstants.{MAX_WORDS};
 ghost use Rattle.std.specs.FinMap as fin;
 ghost use Rattle.gr_lang.specs.Objects as spec;
+ghost use Rattle.gr_memory.specs.Contents.{contents_of};
 ghost use Rattle.gr_memory.specs.Ranges.{LiesIn};
 
-use crate::things::{Thing, affect_at, change_line_at};
+use crate::contents::Contents;
+use crate::things::{Thing, affect_at, change_line_at, contents_in};
 use gr_alloc::Blocks;
 use gr_lang::{Op, Reply};
 use gr_syntax::HEAP;
@@ -98,6 +100,13 @@ impl Memory {
         ensures { self.new ≡ record self.old { words = slice_set self.old.words at word } }
     {
         self.words[at] = word;
+    }
+
+    /// What each object holds but the heap, by the objects' numbers. An error is want of memory.
+    pub fn contents(&self, alloc: Global) -> Result<Contents, AllocError>
+        ensures { IfOk result (λ contents. contents ≡ contents_of self.now) }
+    {
+        contents_in(alloc, &self.things, &self.words)
     }
 
     /// What a call would reply now.

@@ -1,10 +1,14 @@
 //! The parts of a plain memory that grow and shrink: sets, maps and vectors of words.
-ghost use Rattle.std.specs.Prelude.{◌≡◌, [], OnErr, OnOk};
+ghost use Rattle.std.specs.Prelude.{◌≡◌, [], IfOk, OnErr, OnOk};
 ghost use Rattle.std.specs.FinSet as set;
 ghost use Rattle.std.specs.FinMap as fin;
+ghost use Rattle.std.specs.BTreeMap as tree_map;
+ghost use Rattle.std.specs.BTreeSet as tree_set;
+ghost use Rattle.std.specs.Ordering.{nat_cmp};
 ghost use Rattle.gr_lang.specs.Effects as spec;
+ghost use Rattle.gr_memory.specs.Contents.{rising};
 
-use gr_lang::{Op, Reply};
+use gr_lang::{Op, Pairs as PairList, Reply, Words};
 use std::alloc::{AllocError, Global};
 use std::collections::{BTreeMap, BTreeSet, VecDeque};
 use std::marker::Model;
@@ -27,6 +31,41 @@ impl Model for Keys {
     ghost view = { λ a. set.from_list a.tree.keys };
 }
 
+/// The keys of a tree, by rising key.
+fn keys_in(alloc: Global, tree: &BTreeSet<u64>) -> Result<Words, AllocError>
+    ensures listed { IfOk result (λ words. words ≡ tree.now.keys) }
+    ensures ordered { tree_set.IsOrdered nat_cmp tree.now }
+{
+    let mut words = Vec::with_capacity(alloc, tree.len())?;
+    for key in tree {
+        words.push(*key)?;
+    }
+    Ok(Words::from_vec(words))
+}
+
+/// The entries of a tree, by rising key.
+fn pairs_in(alloc: Global, tree: &BTreeMap<u64, u64>) -> Result<PairList, AllocError>
+    ensures listed { IfOk result (λ pairs. pairs ≡ tree.now.entries) }
+    ensures ordered { tree_map.IsOrdered nat_cmp tree.now }
+{
+    let mut pairs = Vec::with_capacity(alloc, tree.len())?;
+    for (key, word) in tree {
+        pairs.push((*key, *word))?;
+    }
+    Ok(PairList::from_vec(pairs))
+}
+
+/// The words of a line, from its head.
+fn words_in(alloc: Global, line: &VecDeque<u64>) -> Result<Words, AllocError>
+    ensures { IfOk result (λ words. words ≡ line.now.items) }
+{
+    let mut words = Vec::with_capacity(alloc, line.len())?;
+    for word in line {
+        words.push(*word)?;
+    }
+    Ok(Words::from_vec(words))
+}
+
 impl Keys {
     /// The empty set.
     pub fn new(alloc: Global) -> Keys
@@ -42,6 +81,14 @@ impl Keys {
         ensures { result ≡ set.contains self.now key }
     {
         self.tree.contains(&key)
+    }
+
+    /// All words of the set, rising. An error is want of memory.
+    pub fn sorted(&self, alloc: Global) -> Result<Words, AllocError>
+        ensures { IfOk result (λ words. words ≡ rising (set.items self.now)) }
+    {
+        let words = keys_in(alloc, &self.tree)?;
+        Ok(words)
     }
 
     /// How many words are in the set.
@@ -104,6 +151,14 @@ impl Pairs {
         self.tree.get(&key).copied()
     }
 
+    /// All keys with their words, by rising key. An error is want of memory.
+    pub fn sorted(&self, alloc: Global) -> Result<PairList, AllocError>
+        ensures { IfOk result (λ pairs. pairs ≡ fin.entries self.now) }
+    {
+        let pairs = pairs_in(alloc, &self.tree)?;
+        Ok(pairs)
+    }
+
     /// Puts a word at a key. Unchanged where there is no memory.
     pub fn put(&mut self, key: u64, word: u64) -> Result<(), AllocError>
         ensures ok { OnOk result (self.new ≡ fin.insert self.old key word) }
@@ -143,6 +198,13 @@ impl Line {
         Line {
             words: VecDeque::new(alloc),
         }
+    }
+
+    /// All words, from the head. An error is want of memory.
+    pub fn words(&self, alloc: Global) -> Result<Words, AllocError>
+        ensures { IfOk result (λ words. words ≡ self.now) }
+    {
+        words_in(alloc, &self.words)
     }
 
     /// What the list replies to a call.

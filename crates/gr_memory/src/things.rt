@@ -1,14 +1,16 @@
 //! The objects of a plain memory: arrays, sets, maps and vectors, each with what a call does to it.
-ghost use Rattle.std.specs.Prelude.{◌≡◌, OnErr, OnOk, Some, []};
+ghost use Rattle.std.specs.Prelude.{◌≡◌, ◌+◌, ◌≤◌, All, IfOk, OnErr, OnOk, Some, [], drop, length, map, take};
 ghost use Rattle.std.specs.FinMap as fin;
 ghost use Rattle.std.specs.FinSet as set;
 ghost use Rattle.gr_lang.specs.Effects as effects;
 ghost use Rattle.gr_lang.specs.Objects as spec;
+ghost use Rattle.gr_memory.specs.Contents.{content_of};
 ghost use Rattle.gr_memory.specs.Ranges.{LiesIn};
 ghost use Rattle.gr_memory.specs.ThingView.{changed_at};
 
+use crate::contents::{Content, Contents};
 use crate::parts::{Keys, Line, Pairs};
-use gr_lang::{Effect, Op, Reply, reduced};
+use gr_lang::{Effect, Op, Reply, Words, reduced};
 use std::alloc::{AllocError, Global};
 use std::marker::Model;
 
@@ -57,6 +59,17 @@ fn after(effect: Effect, before: Option<u64>) -> Option<u64>
             None => Some(word),
         },
     }
+}
+
+/// So many words from an address on.
+fn words_at(alloc: Global, words: &[u64], from: u64, count: u64) -> Result<Words, AllocError>
+    requires { from + count ≤ length words.now }
+    ensures { IfOk result (λ held. held ≡ take count (drop from words.now)) }
+{
+    let from = from as usize;
+    let end = from + count as usize;
+    let held = Vec::from_slice(alloc, &words[from..end])?;
+    Ok(Words::from_vec(held))
 }
 
 impl Thing {
@@ -116,6 +129,31 @@ impl Thing {
                 }
             }
             _ => None,
+        }
+    }
+
+    /// What the object holds. An array's words are among these. An error is want of memory.
+    fn content(&self, alloc: Global, words: &[u64]) -> Result<Content, AllocError>
+        requires { LiesIn (length words.now) self.now }
+        ensures { IfOk result (λ content. content ≡ content_of words.now self.now) }
+    {
+        match &self.held {
+            Held::Array { from, count } => {
+                let words = words_at(alloc, words, *from, *count)?;
+                Ok(Content::Array { words })
+            }
+            Held::Set { its } => {
+                let keys = its.sorted(alloc)?;
+                Ok(Content::Set { keys })
+            }
+            Held::Map { its } => {
+                let pairs = its.sorted(alloc)?;
+                Ok(Content::Map { pairs })
+            }
+            Held::Vector { its } => {
+                let words = its.words(alloc)?;
+                Ok(Content::Vector { words })
+            }
         }
     }
 
@@ -237,4 +275,21 @@ pub(crate) fn change_line_at(things: &mut [Thing], object: u64, op: Op) -> Resul
     } else {
         Ok(())
     }
+}
+
+/// What the objects hold. The arrays' words are among these. An error is want of memory.
+pub(crate) fn contents_in(
+    alloc: Global,
+    things: &[Thing],
+    words: &[u64],
+) -> Result<Contents, AllocError>
+    requires { All (LiesIn (length words.now)) things.now }
+    ensures { IfOk result (λ contents. contents ≡ map (content_of words.now) things.now) }
+{
+    let mut contents = Contents::new(alloc);
+    for thing in things {
+        let content = thing.content(alloc, words)?;
+        contents.push(content)?;
+    }
+    Ok(contents)
 }

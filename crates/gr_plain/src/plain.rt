@@ -1,5 +1,6 @@
 //! The plain memory with its tasks, as a machine that takes the entries of a history one by one.
 ghost use Rattle.std.specs.Prelude.{◌≡◌, IfOk, None, OnOk, Some};
+ghost use Rattle.gr_memory.specs.Contents.{contents_of};
 ghost use Rattle.gr_plain.specs.CountWords.{IsCounted, is_work_in as is_work_in_scope};
 ghost use Rattle.gr_plain.specs.DueWords.{is_blocked as is_blocked_by};
 ghost use Rattle.gr_plain.specs.Held.{entry_due, opening_held, stepped};
@@ -7,6 +8,7 @@ ghost use Rattle.gr_plain.specs.Held.{entry_due, opening_held, stepped};
 use crate::plain_state::PlainState;
 use gr_accept::Accepted;
 use gr_lang::{Entry, TaskId};
+use gr_memory::Contents;
 use gr_tables::{change_numbers, number_in};
 use gr_valid::{states_stay_valid, work_is_direct};
 use std::alloc::{AllocError, Global};
@@ -168,6 +170,13 @@ impl<'a> Plain<'a> {
         ensures { IfOk result (λ entry. entry ≡ entry_due self.now.state task) }
     {
         self.held.next_call(task)
+    }
+
+    /// What each object holds but the heap, by the objects' numbers. An error is want of memory.
+    pub fn contents(&self, alloc: Global) -> Result<Contents, AllocError>
+        ensures { IfOk result (λ contents. contents ≡ contents_of self.now.state.objects) }
+    {
+        self.held.contents(alloc)
     }
 
     /// Whether the root scope is passed, as it is exactly after a complete history.

@@ -3,6 +3,7 @@ ghost use Rattle.std.specs.Prelude.{◌≡◌, ◌∷◌, ◌++◌, [], IfOk, On
 ghost use Rattle.std.specs.FinMap as fin;
 ghost use Rattle.std.specs.Option.{option_map, option_and_then};
 ghost use Rattle.gr_lang.specs.Objects.{call};
+ghost use Rattle.gr_memory.specs.Contents.{contents_of};
 ghost use Rattle.gr_lang.specs.States.{child as child_task, innermost, left as work_left};
 ghost use Rattle.gr_lang.specs.Steps.{is_new as is_new_id};
 ghost use Rattle.gr_plain.specs.Held.{entry_due, opening_held, stepped};
@@ -17,7 +18,7 @@ use crate::opening::open_memory;
 use crate::plain::StepError;
 use gr_accept::Accepted;
 use gr_lang::{Action, Entry, How, Op, Reply, TaskId, TrapKind, Words};
-use gr_memory::{Keys, Memory};
+use gr_memory::{Contents, Keys, Memory};
 use gr_steps::Table;
 use gr_syntax::Text;
 use gr_tables::{
@@ -146,6 +147,13 @@ impl<'a> PlainState<'a> {
         ensures { result ≡ (call op self.now.state.objects).1 }
     {
         self.memory.reply(op)
+    }
+
+    /// What each object holds but the heap, by the objects' numbers. An error is want of memory.
+    pub fn contents(&self, alloc: Global) -> Result<Contents, AllocError>
+        ensures { IfOk result (λ contents. contents ≡ contents_of self.now.state.objects) }
+    {
+        self.memory.contents(alloc)
     }
 
     fn scope_count(&self) -> u64

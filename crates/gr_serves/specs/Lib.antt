@@ -1,3 +1,4 @@
 pub mod Heaps
 -- For proofs and private functions.
+pub mod MessageWords
 pub mod ScopeWords

@@ -5,6 +5,7 @@ ghost use Rattle.gr_courses.specs.Courses.{gives_to, served_from, settled_by, se
 ghost use Rattle.gr_courses.specs.Seen.{does_to};
 ghost use Rattle.gr_state.specs.StateView.{seen_of};
 ghost use Rattle.gr_serves.specs.Heaps.{KnowsHeap};
+ghost use Rattle.gr_serves.specs.MessageWords.{IsOfBatches, IsOfCalls, IsOfTurns};
 
 use crate::batches::{self, Arrival};
 use crate::requests::{self, Caller};
@@ -37,14 +38,10 @@ fn settle(state: &mut State, vector: Option<u64>) -> Result<(), AllocError>
     }
 }
 
-/// What is done with a message, by its kind. Where there is nothing to act on, all stays.
-fn serve_message(
-    state: &mut State,
-    from: u64,
-    message: Msg,
-    reducers: &Reducers,
-) -> Result<(), AllocError>
-    requires { KnowsHeap (seen_of state.old) }
+/// What is done with a requested call, or with the reply to one.
+fn serve_call(state: &mut State, from: u64, message: Msg) -> Result<(), AllocError>
+    requires message { IsOfCalls message }
+    requires heap { KnowsHeap (seen_of state.old) }
     ensures { OnOk result (let s = seen_of state.old in seen_of state.new
         ≡ does_to s (serves s.machine s.me s.core.body from message)) }
 {
@@ -56,48 +53,63 @@ fn serve_message(
             x,
             y,
             z,
-        } => requests::request(
-            state,
-            Caller {
+        } => {
+            let caller = Caller {
                 core: from,
                 slot,
                 id,
-            },
-            operation,
-            x,
-            y,
-            z,
-        ),
+            };
+            requests::request(state, caller, operation, x, y, z)
+        }
         Msg::Reply {
             slot,
             id,
             first,
             second,
         } => requests::reply(state, slot, id, Reply { first, second }),
-        Msg::Spawn { unit } => scopes::spawn(state, unit),
-        Msg::Enrol { scope } => scopes::enrol(state, from, scope),
-        Msg::EnrolAck { scope } => scopes::count(state, scope),
-        Msg::Complete { scope, count } => scopes::complete(state, scope, count),
-        Msg::Leave { scope } => scopes::leave(state, scope),
-        Msg::StealAsk => steals::wait(state, from),
-        Msg::StealGive { unit } => steals::take(state, from, unit),
+        _ => unreachable!(),
+    }
+}
+
+/// What is done with a batch, or with the reply to one.
+fn serve_batch(
+    state: &mut State,
+    from: u64,
+    message: Msg,
+    reducers: &Reducers,
+) -> Result<(), AllocError>
+    requires { IsOfBatches message }
+    ensures { OnOk result (let s = seen_of state.old in seen_of state.new
+        ≡ does_to s (serves s.machine s.me s.core.body from message)) }
+{
+    match message {
         Msg::Batch {
             object,
             key,
             effect,
             batch,
-        } => batches::apply(
-            state,
-            Arrival {
+        } => {
+            let arrival = Arrival {
                 from,
                 batch,
                 object,
                 key,
                 effect,
-            },
-            reducers,
-        ),
+            };
+            batches::apply(state, arrival, reducers)
+        }
         Msg::BatchReply { batch, before } => batches::wake(state, batch, before, reducers),
+        _ => unreachable!(),
+    }
+}
+
+/// What is done with a message of turns at a vector.
+fn serve_turn(state: &mut State, from: u64, message: Msg) -> Result<(), AllocError>
+    requires { IsOfTurns message }
+    ensures { OnOk result (let s = seen_of state.old in seen_of state.new
+        ≡ does_to s (serves s.machine s.me s.core.body from message)) }
+{
+    match message {
         Msg::Turn { vector } => gr_grants::ask(state, from, vector),
         Msg::Grant { vector, head, tail } => gr_grants::grant(state, vector, head, tail),
         Msg::Done { vector, head, tail } => gr_grants::done(state, vector, head, tail),
@@ -112,6 +124,37 @@ fn serve_message(
             position,
             got,
         } => gr_grants::answer(state, vector, position, got),
+        _ => unreachable!(),
+    }
+}
+
+/// What is done with a message, by its kind. Where there is nothing to act on, all stays.
+fn serve_message(
+    state: &mut State,
+    from: u64,
+    message: Msg,
+    reducers: &Reducers,
+) -> Result<(), AllocError>
+    requires { KnowsHeap (seen_of state.old) }
+    ensures { OnOk result (let s = seen_of state.old in seen_of state.new
+        ≡ does_to s (serves s.machine s.me s.core.body from message)) }
+{
+    match message {
+        Msg::Request { .. } | Msg::Reply { .. } => serve_call(state, from, message),
+        Msg::Spawn { unit } => scopes::spawn(state, unit),
+        Msg::Enrol { scope } => scopes::enrol(state, from, scope),
+        Msg::EnrolAck { scope } => scopes::count(state, scope),
+        Msg::Complete { scope, count } => scopes::complete(state, scope, count),
+        Msg::Leave { scope } => scopes::leave(state, scope),
+        Msg::StealAsk => steals::wait(state, from),
+        Msg::StealGive { unit } => steals::take(state, from, unit),
+        Msg::Batch { .. } | Msg::BatchReply { .. } => serve_batch(state, from, message, reducers),
+        Msg::Turn { .. }
+        | Msg::Grant { .. }
+        | Msg::Done { .. }
+        | Msg::ElemPut { .. }
+        | Msg::ElemGet { .. }
+        | Msg::ElemAck { .. } => serve_turn(state, from, message),
     }
 }
 

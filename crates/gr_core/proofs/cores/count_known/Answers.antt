@@ -1,4 +1,4 @@
-use Rattle.std.proofs.Common.{◌∙◌, ℕ, length}
+use Rattle.std.proofs.Common.{◌∙◌, length}
 use Rattle.gr_view.specs.Places.{at_place}
 use Rattle.gr_mail.specs.Rings.{known_from}
 use Rattle.gr_core.proofs.Known.{known_more}

@@ -1,9 +1,8 @@
-use Rattle.std.proofs.Common.{◌≡◌, ◌∙◌, ℕ, [], sym}
+use Rattle.std.proofs.Common.{◌≡◌, ◌∙◌, [], sym}
 use Rattle.gr_lang.specs.Objects.{Heap}
 use Rattle.gr_machine.specs.Machines.{Machine, machine_of}
 use Rattle.gr_state.specs.StateView.{seen_of}
 use Rattle.gr_view.specs.Places.{at_place}
-use Rattle.gr_core.specs.CoreView.{run_in}
 use Rattle.gr_core.specs.Runs.{Run, opened_run}
 use Rattle.gr_core.proofs.Beginning.{opened_carries, opened_heap, opened_is, opened_runs}
 use Rattle.gr_core.proofs.cores.Core.start.Goals as goal

@@ -1,0 +1,4 @@
+pub mod Merges
+pub mod Sames
+pub mod Gathers
+pub mod Together

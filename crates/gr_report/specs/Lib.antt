@@ -1,0 +1,7 @@
+pub mod Texts
+pub mod Showing
+pub mod Ends
+pub mod Gathered
+pub mod Laws
+-- For proofs and private functions.
+pub mod SameWords

@@ -1,0 +1,4 @@
+pub mod Growing
+pub mod Sums
+pub mod Advancing
+pub mod Stalling

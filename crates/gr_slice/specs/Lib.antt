@@ -1,0 +1,3 @@
+pub mod Slices
+-- For proofs and private functions.
+pub mod TryWords

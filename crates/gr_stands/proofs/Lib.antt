@@ -1,0 +1,7 @@
+pub mod Worlds
+pub mod Memories
+pub mod Calls
+pub mod Places
+pub mod Events
+pub mod Laid
+pub mod Opening

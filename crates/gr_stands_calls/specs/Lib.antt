@@ -1,0 +1,4 @@
+pub mod Acting
+pub mod Rests
+pub mod Stays
+pub mod Laws

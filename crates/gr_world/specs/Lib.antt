@@ -1,0 +1,5 @@
+pub mod Worlds
+pub mod Laws
+-- For proofs and private functions.
+pub mod MeetingWords
+pub mod HistoryWords
