@@ -7,7 +7,7 @@ CHECK, RUN, REPLAY = ("check",), ("run", "--cores", "1"), ("replay",)
 
 
 def straight(statements):
-    """A program that runs today: `statements` statements in a row, of six kinds in turn."""
+    """A program of one task: `statements` statements in a row, of six kinds in turn."""
     kinds = [
         "x = x * 6364136223846793005 + {k};",
         "y = a.add({place}, x);",

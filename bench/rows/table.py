@@ -66,7 +66,6 @@ def row(group, words, text, due=None, place="a rule"):
 # Answers
 
 ACCEPTED, USAGE, TOO_LONG = told(0, "accepted"), told(2, words.USAGE), told(8, "input too long")
-NOT_BUILT = answers.NOT_BUILT
 COMPLETE, OPEN = told(0, "legal complete"), told(0, "legal open")
 
 
@@ -84,6 +83,10 @@ def bad(line):
 
 def prints(*numbers):
     return told(0, *map(str, numbers))
+
+
+def shows(*lines):
+    return told(0, *lines)
 
 
 FORMS = [

@@ -1,17 +1,21 @@
 """The status and the text that a call of the program owes."""
+from functools import lru_cache
 from typing import NamedTuple
 
-from . import grammar, lines, tasks
+from . import benches, grammar, lines, machine, schedules
 from .checker import check
 from .grammar import program_of
-from .lines import BadLine, Entry, Over
-from .steps import MAIN, State
-from .tokens import Place, Refused, tokens
+from .lines import BadLine
+from .schedules import Free, prints
+from .steps import State
+from .tokens import Refused, tokens
 from .words import USAGE, Usage, options
 
 LONGEST_PROGRAM, LONGEST_REPLAY = 2 ** 20, 2 ** 26
 MOST_EVENTS = 2 ** 40
 DIVIDE = b"---"
+# A history of so many entries is long.
+LONG = 20000
 
 
 class Answer(NamedTuple):
@@ -27,7 +31,7 @@ def answer(words, source):
     """The answer to these words and these bytes of standard input."""
     try:
         asked = options(words)
-        return NOT_BUILT if asked["command"] == "bench" else read(asked, source)
+        return read(asked, source)
     except Usage:
         return told(2, USAGE)
     except Refused as refused:
@@ -57,11 +61,10 @@ def refusal(cause, place):
     return told(1, "refused line %d column %d: %s" % (*place, cause))
 
 
-NOT_BUILT = refusal("not built", Place(1, 1))
-
-
 def read(asked, source):
-    """The answer of a command that reads standard input."""
+    """The answer of a command. A bench makes its own text, and the others read standard input."""
+    if asked["command"] == "bench":
+        return run(asked, benches.text(asked["kind"], asked["size"], asked["seed"]))
     replays = asked["command"] == "replay"
     if len(source) > (LONGEST_REPLAY if replays else LONGEST_PROGRAM):
         return told(8, "input too long")
@@ -70,7 +73,7 @@ def read(asked, source):
     program = accepted(source)
     if asked["command"] == "check":
         return told(0, "accepted")
-    return run(asked, program) if is_run(asked, program) else NOT_BUILT
+    return run(asked, source)
 
 
 def accepted(text):
@@ -109,44 +112,95 @@ def replay(text, history):
 
 # Runs
 
-def is_run(asked, program):
-    """Whether `run` takes this program with these options today."""
-    if asked["cores"] != 1 or asked["events"] != MOST_EVENTS or asked["counts"]:
-        return False
-    lengths = {item.name.text: item.words.value for item in program.items if item.kind == "array"}
-    mains = [item for item in program.items if item.kind == "task"]
-    return (len(lengths) + len(mains) == len(program.items) and [item.name.text for item in mains] == ["main"]
-            and all(is_straight(statement, lengths) for statement in mains[0].body))
+def run(asked, text):
+    """The answer of a run of an accepted program."""
+    if asked["cores"] == 1:
+        return run_alone(asked, core_of(text, asked["steps"], asked["events"]))
+    if asked["counts"]:
+        raise Free("the counts of several cores")
+    if asked["events"] == 1:
+        return run_one_event(asked, text)
+    runs = [told_by(asked, made, length) for made in runs_of(text, asked["cores"], asked["steps"]) for length in lengths(made)]
+    if any(one != runs[0] for one in runs):
+        raise Free("the answer of a run of several cores")
+    return runs[0]
 
 
-def is_straight(statement, lengths):
-    if isinstance(statement, grammar.Assign):
-        return not divides(statement.value)
-    if isinstance(statement, grammar.Print):
-        return not divides(statement.value)
-    if not isinstance(statement, grammar.Call) or statement.operation.text not in ("read", "write", "add"):
-        return False
-    index = statement.args[0]
-    is_inside = isinstance(index, grammar.Literal) and index.value < lengths[statement.object.text]
-    return is_inside and not any(map(divides, statement.args))
+@lru_cache(maxsize=100)
+def core_of(text, steps, events):
+    return machine.Core(accepted(text), steps, events)
 
 
-def divides(expr):
-    if isinstance(expr, grammar.Not):
-        return divides(expr.inner)
-    return isinstance(expr, grammar.Two) and (expr.sign in ("/", "%") or divides(expr.left) or divides(expr.right))
+@lru_cache(maxsize=100)
+def runs_of(text, cores, steps):
+    """Runs by each schedule; a long one by two of them."""
+    program, runs = accepted(text), []
+    for number, pick in enumerate(schedules.schedules()):
+        if len(runs) < 2 or len(runs[0].entries) < LONG:
+            runs.append(schedules.Run(program, cores, steps, number, pick))
+    return runs
 
 
-def run(asked, program):
-    """The answer of a run of main alone: its prints, its trap, and its history where that is asked for."""
-    state, entries = State(program, asked["cores"], asked["steps"]), []
-    while MAIN in state.tasks and not state.tasks[MAIN].trapped:
-        entries.append(state.step(Entry(MAIN, state.tasks[MAIN].action, None)))
-    shown = [str(entry.action.word) for entry in entries if isinstance(entry.action, tasks.Print)]
-    if MAIN in state.tasks:
-        shown.append("trap %s task 0.0" % entries[-1].action.kind)
+def run_alone(asked, core):
+    """The answer of one core."""
+    if core.state.over:
+        status, last = 0, shown(core.state)
+    elif core.trap:
+        status, last = 3, [trap_line(core.entries[core.trap - 1])]
     else:
-        entries.append(Entry(None, Over()))
+        status, last = 7, ["limit events core 0 clock %d" % core.clock]
+        assert core.clock >= asked["events"], "one core stands still"
+    counts = [core.counts_line()] if asked["counts"] else []
+    return told(status, *prints(core.entries), *last, *history(asked, core.entries), *counts)
+
+
+def run_one_event(asked, text):
+    """Core 0 makes one event, the first action of main, which is a trap or not the end of the run. Others make one at most,
+    and mark nothing."""
+    core = core_of(text, asked["steps"], 1)
+    if asked["history"] or core.trap:
+        raise Free("the first event")
+    return told(7, "limit events core 0 clock 1")
+
+
+def lengths(made):
+    """How many entries a run may have: once a task is trapped, those of the others may come or not."""
+    return {made.trap, len(made.entries)} if made.trap else {len(made.entries)}
+
+
+def told_by(asked, made, length):
+    """The answer of several cores, of so many entries of this run."""
+    # No run makes more events than this.
+    if asked["events"] < MOST_EVENTS and asked["events"] <= 64 * (length + asked["cores"] ** 2):
+        raise Free("the limit on events")
+    if asked["history"] and not made.is_forced:
+        raise Free("the history")
+    entries = made.entries[:length]
+    last = [trap_line(entries[made.trap - 1])] if made.trap else shown(made.state)
+    return told(3 if made.trap else 0, *prints(entries), *last, *history(asked, entries))
+
+
+def trap_line(entry):
+    return "trap %s task %d.%d" % (entry.action.kind, *entry.task)
+
+
+def history(asked, entries):
     text = lines.text_of(asked["cores"], asked["steps"], entries) if asked["history"] else ""
-    found = told(3 if MAIN in state.tasks else 0, *shown)
-    return found._replace(output=found.output + text)
+    return text.splitlines()
+
+
+def shown(state):
+    """The lines of the items `show`."""
+    for item in state.program.items:
+        if item.kind == "show":
+            kind, name = state.meanings[item.name.text].kind, item.name.text
+            yield " ".join(["%s %s:" % (kind, name)] + list(map(str, contents(state.memory, kind, name))))
+
+
+def contents(memory, kind, name):
+    if kind == "array":
+        base = memory.bases[name]
+        return [memory.words.get(base + place, 0) for place in range(memory.meanings[name].words.value)]
+    if kind == "map":
+        return ["%d=%d" % pair for pair in sorted(memory.maps[name].items())]
+    return sorted(memory.sets[name]) if kind == "set" else memory.vectors[name]

@@ -2,7 +2,7 @@
 
 Where the rule itself says the answer it is stated with the row, and held against the reading as for rows that are stated by
 hand; elsewhere (each prefix of a program, changed histories) only the reading says it."""
-from . import changed, devices, histories, options, pages, programs
+from . import changed, devices, histories, options, pages, programs, runs
 
 
 def rows(root):
@@ -13,3 +13,4 @@ def rows(root):
     yield from histories.rows()
     yield from changed.rows()
     yield from pages.rows(root)
+    yield from runs.rows(root)

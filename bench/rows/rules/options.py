@@ -1,6 +1,6 @@
 """Words of the command line that come by a rule."""
 from reading.words import KINDS, OPTIONS
-from table import ACCEPTED, NOT_BUILT, USAGE, bad, prints, row
+from table import ACCEPTED, USAGE, bad, prints, row, shows
 
 PROGRAM = "task main() { print 7; }"
 COMMANDS = ("run", "check", "replay", "bench")
@@ -21,9 +21,13 @@ def bounds(option, least, greatest):
     """The least and the greatest value of an option with each command, and the numbers beside them."""
     def told(words, due):
         return row("bounds", words, PROGRAM, due)
-    for command, due in (("check", ACCEPTED), ("replay", bad(1)), ("bench", NOT_BUILT)):
+    for command, due in (("check", ACCEPTED), ("replay", bad(1))):
         yield told([command, option, str(least)], due)
         yield told([option, str(greatest), command], due)
+    if option not in ("--size", "--events"):
+        for value in (least, greatest):
+            yield told(["run", option, str(value)], prints(7))
+            yield told(["bench", "--kind", "sets", "--size", "3", option, str(value)], shows("array a: 3"))
     for value in [greatest + 1] + [least - 1] * (least > 0):
         for command in COMMANDS:
             yield told([command, option, str(value)], USAGE)
@@ -43,10 +47,14 @@ def numbers(names):
 
 def kinds():
     for kind in KINDS:
-        for command, due in (("check", ACCEPTED), ("replay", bad(1)), ("bench", NOT_BUILT)):
+        for command, due in (("check", ACCEPTED), ("replay", bad(1)), ("bench", None), ("run", prints(7))):
             yield row("kinds", [command, "--kind", kind], PROGRAM, due)
         yield row("kinds", ["run", "--cores", "1", "--kind=" + kind], PROGRAM, prints(7))
     for kind in NO_KINDS:
         yield row("kinds", ["bench", "--kind", kind], PROGRAM, USAGE)
-    for words in ("bench --kind queue --size 3 --seed 1", "bench --kind words --size 1 --seed 0"):
-        yield row("kinds", words.split(), "", NOT_BUILT)
+    for words, due in (
+            ("--kind queue --size 3 --seed 1", shows("array a: 3 0")), ("--kind queue --size 10 --seed 5", shows("array a: 10 11")),
+            ("--kind words --size 1 --seed 0", shows("array hist:" + " 0" * 14 + " 1 0")),
+            ("--kind sets --size 1 --seed 0", shows("array a: 1"))):
+        for cores in ([], ["--cores", "1"], ["--cores", "2", "--block", "1", "--limit", "1"]):
+            yield row("kinds", ["bench"] + words.split() + cores, "", due)

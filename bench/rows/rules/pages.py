@@ -1,12 +1,10 @@
 """What the repository shows elsewhere: the programs of examples/, and the programs and histories of its pages."""
 import re
 
-from reading.answers import accepted, divided, is_run
+from reading.answers import divided
 from reading.checker import CAUSES
-from reading.words import DEFAULTS
-from table import ACCEPTED, COMPLETE, NOT_BUILT, OPEN, entry, refused, row
+from table import ACCEPTED, COMPLETE, OPEN, entry, refused, row
 
-RUN = ("run", "--cores", "1")
 LANGUAGE, HISTORY = "docs/LANGUAGE.md", "docs/HISTORY.md"
 
 
@@ -21,8 +19,6 @@ def examples(root):
     programs = {path.name: path.read_bytes() for path in sorted((root / "examples").glob("*.grappa"))}
     for text in programs.values():
         yield row("examples", ("check",), text, ACCEPTED)
-        if not is_run({**DEFAULTS, "cores": 1}, accepted(text)):
-            yield row("examples", RUN, text, NOT_BUILT)
     for path in sorted((root / "examples").glob("*.replay")):
         programs[path.name] = divided(path.read_bytes())[0]
     for text in programs.values():
@@ -40,12 +36,12 @@ def part(page, heading, name):
 def refusals(page):
     """The table of the page on the language that has a program for each refusal."""
     heading = "A program for each refusal"
-    found = re.findall(r"^\| (.*) \| `(.*)` \| `refused line (\d+) column (\d+): (.*)` \|$", part(page, heading, LANGUAGE), re.M)
+    found = re.findall(r"^\| .* \| `(.*)` \| `refused line (\d+) column (\d+): (.*)` \|$", part(page, heading, LANGUAGE), re.M)
     if len(found) < len(CAUSES):
         raise SystemExit("%s: the table under '%s' has only %d programs" % (LANGUAGE, heading, len(found)))
-    for words, program, line, column, cause in found:
+    for program, line, column, cause in found:
         due = refused(int(line), int(column), cause)
-        yield row("a program for each refusal", RUN if "run" in words else ("check",), program, due)
+        yield row("a program for each refusal", ("check",), program, due)
 
 
 def replays(page):

@@ -120,8 +120,7 @@ kind_at n =
     if n == 12 then k.TooMany else
     if n == 13 then k.HeapTooLarge else
     if n == 14 then k.InputTooLong else
-    if n == 15 then k.InputUnknown else
-    k.NotBuilt
+    k.InputUnknown
 
 kind_at-rank : (kind : Kind) → kind_at (rank kind) ≡ kind
 unfolding kind_at
@@ -140,7 +139,6 @@ kind_at-rank k.TooMany = refl
 kind_at-rank k.HeapTooLarge = refl
 kind_at-rank k.InputTooLong = refl
 kind_at-rank k.InputUnknown = refl
-kind_at-rank k.NotBuilt = refl
 
 neither : (f g : Fault) → comes_before f g ≡ false → comes_before g f ≡ false → f ≡ g
 neither f g h j =

@@ -2,7 +2,6 @@
 use denote.Ref.{NamedLft}
 use denote.Param.Send.{IsSend}
 use Rattle.slab.proofs.Slab.TheSendSync as slab
-use Rattle.gr_lang.proofs.lists.Sequence.TheSendSync as sequence
 use Rattle.gr_code.proofs.Crossing.{accepted_sync, code_parts, instruction_sync, stmt_sync}
 use Rattle.gr_msg.proofs.packet.Packet.TheSendSync as packet
 use Rattle.gr_event.proofs.counts.LocalCounts.TheSendSync as counts

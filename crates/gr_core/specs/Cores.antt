@@ -6,7 +6,7 @@ use Rattle.gr_core.specs.declared.cores.Core.{Core}
 
 -- What it has come to, and its rings.
 abbrev pub run_of : Core → Run
-run_of core = run_in core.running
+run_of core = run_in core.running.value
 
 abbrev pub mail_of : Core → Mail
 mail_of core = core.mail

@@ -26,12 +26,13 @@ use std::alloc::{AllocError, Global};
 #[derive(Drop)]
 pub struct Core<'a> {
     pub(crate) mail: Mail,
-    pub(crate) running: Running<'a>,
+    /// In a box, so that a core moves as a few words.
+    pub(crate) running: Box<Running<'a>>,
     /// Room for a number for each core.
     pub(crate) left: Vec<u64>,
-    ghost runs: { IsRun (run_in running) } by { Prim.hlevel (codes, stmt.the_row.coded, fin.code {R = nat_cmp} coded_ℕ coded_ℕ) },
-    ghost heap: { KnowsHeap (run_in running).seen },
-    ghost carries: { Carries mail (run_in running) },
+    ghost runs: { IsRun (run_in running.value) } by { Prim.hlevel (codes, stmt.the_row.coded, fin.code {R = nat_cmp} coded_ℕ coded_ℕ) },
+    ghost heap: { KnowsHeap (run_in running.value).seen },
+    ghost carries: { Carries mail (run_in running.value) },
     ghost room: { length left.items ≡ cores mail },
 }
 
@@ -114,15 +115,17 @@ impl<'a> Core<'a> {
         let received = no_packets(alloc, setup.cores)?;
         let sent = no_packets(alloc, setup.cores)?;
         let left = room(alloc, setup.cores)?;
+        let running = Running {
+            first,
+            state,
+            journal: Journal::new(alloc),
+            received,
+            sent,
+        };
+        let running = Box::new(alloc, running)?;
         Ok(Core {
             mail,
-            running: Running {
-                first,
-                state,
-                journal: Journal::new(alloc),
-                received,
-                sent,
-            },
+            running,
             left,
         })
     }
@@ -154,7 +157,7 @@ impl<'a> Core<'a> {
             mut running,
             left,
         } = self;
-        let done = make(&mut mail, &mut running, event, reducers)?;
+        let done = make(&mut mail, &mut *running, event, reducers)?;
         Ok(Stepped {
             core: Core {
                 mail,
@@ -275,14 +278,14 @@ impl<'a> Core<'a> {
             left,
         } = self;
         let left = count_known(&mail, left);
-        let core = running.state.posts.me();
         let Running {
             first,
             state,
             journal,
             received,
             sent,
-        } = running;
+        } = Box::into_inner(running);
+        let core = state.posts.me();
         CoreEnd {
             core,
             clock: state.clock,

@@ -17,7 +17,7 @@ use Rattle.gr_core.specs.Cores.{mail_of, run_of}
 use Rattle.gr_core.specs.Runs.{Made, Run}
 use Rattle.gr_core.proofs.Keeping.{all_kept, kept_twice}
 use Rattle.gr_slice.specs.Slices.{AsksLast, HasStopped, OnlyAsks, Sliced, Stayed}
-use Rattle.gr_slice.specs.TryWords.{Advanced, MayTry, Turned}
+use Rattle.gr_slice.specs.TryWords.{Advanced, MayMake, Turned}
 use Rattle.gr_slice.proofs.Staying.{cannot_after, stayed_self}
 
 -- The entry of an event.
@@ -83,7 +83,7 @@ turned_more turn before middle after turned step =
       rings = rings_twice (mail_of before) (mail_of middle) (mail_of after) turned.rings step.rings;
       kept = kept_twice (mail_of before) (mail_of middle) (mail_of after) turned.kept step.kept;
       asks = asks_more (run_of before) (mail_of before) went.entries entry turned.asks
-          (λ none. subst (λ (core : Core). MayTry core step.what) (turned.first (sym turned.many ∙ none)) step.may);
+          (λ none. subst (λ (core : Core). MayMake core step.what) (turned.first (sym turned.many ∙ none)) step.may);
       first = λ none. absurd (omega (arith, none));
     }
 

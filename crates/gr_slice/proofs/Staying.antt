@@ -4,6 +4,7 @@ use Rattle.std.specs.Prelude.{Bool, true, false}
 use Rattle.std.proofs.lemmas.Bool.{cases_eq}
 use Rattle.gr_machine.specs.declared.event.Event.{Event}
 use Rattle.gr_machine.specs.declared.event.Event.TheVariants as event
+use Rattle.gr_machine.specs.Counting.{is_steal}
 use Rattle.gr_machine.specs.Enabled.{enabled}
 use Rattle.gr_mail.specs.declared.mail.Mail.{Mail}
 use Rattle.gr_mail.specs.Rings.{SameRings, free_to, known_from}
@@ -13,8 +14,10 @@ use Rattle.gr_core.specs.Cores.{mail_of, run_of}
 use Rattle.gr_core.specs.Mails.{HasToWait, NoneForgotten, SameKnownUnless, WaitsUnless}
 use Rattle.gr_core.specs.Runs.{Made, MadeOr, Run}
 use Rattle.gr_core.proofs.Keeping.{all_kept, kept_twice}
+use Rattle.gr_slice.specs.declared.tries.Kind.{Kind}
+use Rattle.gr_slice.specs.declared.tries.Kind.TheVariants as kind
 use Rattle.gr_slice.specs.Slices.{CanMake, OnlyAsks, Stayed}
-use Rattle.gr_slice.specs.TryWords.{Advanced, CanMakeNone, CanMakeNoneBelow, Cannot, HasNoWork, MayTry, Tried}
+use Rattle.gr_slice.specs.TryWords.{Advanced, CanMakeNone, CanMakeNoneBelow, Cannot, HasNoWork, MayMake, MayTry, Tried, event_of}
 
 pub stayed_self : (core : Core) → Stayed core core
 stayed_self core = record { run = refl; rings = rings_self (mail_of core); kept = all_kept (mail_of core); known = refl; free = refl }
@@ -87,38 +90,50 @@ pub still_stayed : (done : Bool) (one other later : Core) → Stayed one other �
 still_stayed done one other later s not t = stayed_twice one other later s (stayed_of done other later not t)
 
 -- What can't be made after nothing was made couldn't be before.
-pub none_before : (events : ℕ → Event) (one other : Core) → Stayed one other → CanMakeNone events other → CanMakeNone events one
-none_before events one other s none number = cannot_before one other (events number) s (none number)
+pub none_before : (kind : Kind) (one other : Core) → Stayed one other → CanMakeNone kind other → CanMakeNone kind one
+none_before kind one other s none number = cannot_before one other (event_of kind number) s (none number)
 
 pub no_work_before : (one other : Core) → Stayed one other → HasNoWork other → HasNoWork one
 no_work_before one other s work = record {
-  run = cannot_before one other event.Run s work.run;
-  close = none_before event.Close one other s work.close;
-  ship = none_before event.Ship one other s work.ship;
+  run = none_before kind.Run one other s work.run;
+  close = none_before kind.Close one other s work.close;
+  ship = none_before kind.Ship one other s work.ship;
 }
 
--- One event
+-- A step
 
-pub step_tried : (done : Bool) (before after : Core) (what : Event) → MayTry before what → MadeOr (run_of before) what (run_of after) done
+pub step_tried : (done : Bool) (before after : Core) (what : Event) → MayMake before what → MadeOr (run_of before) what (run_of after) done
     → SameRings (mail_of before) (mail_of after) → NoneForgotten (mail_of before) (mail_of after) → SameKnownUnless done (mail_of before) (mail_of after)
     → Tried done before after
 step_tried true before after what may made rings kept same = record { what = what; made = made; may = may; rings = rings; kept = kept }
 step_tried false before after what may made rings kept same = record { run = made; rings = rings; kept = kept; known = same.0; free = same.1 }
 
-pub step_waits : (done : Bool) (core : Core) (what : Event) → WaitsUnless done (mail_of core) what → done ≡ false → Cannot core what
+step_waits : (done : Bool) (core : Core) (what : Event) → WaitsUnless done (mail_of core) what → done ≡ false → Cannot core what
 step_waits false core what waits not can = can.now waits
 step_waits true core what waits not can = absurd (cc)
 
-pub disabled : (core : Core) (what : Event) (able : Bool) → able ≡ enabled (run_of core).seen.machine (run_of core).seen.me (run_of core).seen.core what → able ≡ false
-    → Cannot core what
-disabled core what able is not can = let no : false ≡ true = sym not ∙ is ∙ can.enabled in cc
+pub ruleset attempts = (stayed_self, step_tried)
 
-pub ruleset attempts = (stayed_self, tried_after, stayed_of, step_tried, step_waits, disabled)
-
--- One number more of which no event can be made.
-pub none_more : (events : ℕ → Event) (one other : Core) (count : ℕ) → Stayed one other → CanMakeNoneBelow events one count → Cannot other (events count)
-    → CanMakeNoneBelow events one (count + 1)
-none_more events one other count s none cannot number below = elim (cases_eq number count) [
-  | inl e ↦ subst (λ n. Cannot one (events n)) (sym e) (cannot_before one other (events count) s cannot)
+-- One number more of which no event can be made: one that had to wait, and one that isn't enabled.
+none_more : (kind : Kind) (one other : Core) (count : ℕ) → Stayed one other → CanMakeNoneBelow kind one count → Cannot other (event_of kind count)
+    → CanMakeNoneBelow kind one (count + 1)
+none_more kind one other count s none cannot number below = elim (cases_eq number count) [
+  | inl e ↦ subst (λ n. Cannot one (event_of kind n)) (sym e) (cannot_before one other (event_of kind count) s cannot)
   | inr n ↦ none number (omega (arith, below, n))
 ]
+
+pub none_after_step : (done : Bool) (kind : Kind) (what : Event) (one other : Core) (count : ℕ) → Stayed one other → CanMakeNoneBelow kind one count
+    → what ≡ event_of kind count → WaitsUnless done (mail_of other) what → done ≡ false → CanMakeNoneBelow kind one (count + 1)
+none_after_step done kind what one other count s none is waits not =
+    none_more kind one other count s none (subst (Cannot other) is (step_waits done other what waits not))
+
+pub none_disabled : (able : Bool) (kind : Kind) (what : Event) (one other : Core) (count : ℕ) → Stayed one other → CanMakeNoneBelow kind one count
+    → what ≡ event_of kind count → able ≡ enabled (run_of other).seen.machine (run_of other).seen.me (run_of other).seen.core what → able ≡ false
+    → CanMakeNoneBelow kind one (count + 1)
+none_disabled able kind what one other count s none is able_is not =
+    let cannot : Cannot other what = λ can. (let no : false ≡ true = sym not ∙ able_is ∙ can.enabled in cc) in
+    none_more kind one other count s none (subst (Cannot other) is cannot)
+
+-- What may be tried may be made, by its number.
+pub may_make : (kind : Kind) (one other : Core) (what : Event) (number : ℕ) → Stayed one other → MayTry one kind → what ≡ event_of kind number → MayMake other what
+may_make kind one other what number s may is steals = asks_after one other s (may number (ap is_steal (sym is) ∙ steals))

@@ -1,9 +1,9 @@
 //! The events that a core tries, one after another, until it makes one.
 ghost use Rattle.std.specs.Prelude.{◌≡◌, IfOk, false};
-ghost use Rattle.gr_machine.specs.declared.event.Event.TheVariants as event;
 ghost use Rattle.gr_core.specs.Cores.{mail_of, run_of};
-ghost use Rattle.gr_slice.specs.Slices.{HasStopped, OnlyAsks};
-ghost use Rattle.gr_slice.specs.TryWords.{CanMakeNone, Cannot, HasNoUrgent, HasNoWork, MayTry, Tried};
+ghost use Rattle.gr_slice.specs.declared.tries.Kind.TheVariants as kind;
+ghost use Rattle.gr_slice.specs.Slices.{HasStopped};
+ghost use Rattle.gr_slice.specs.TryWords.{CanMakeNone, HasNoUrgent, HasNoWork, MayTry, Tried, count_of, event_of};
 
 use gr_core::{Core, Stepped};
 use gr_machine::Event;
@@ -11,18 +11,64 @@ use gr_reduce::Reducers;
 use gr_syntax::HEAP;
 use std::alloc::AllocError;
 
-/// Makes an event, if the core can make it now.
-#[tactic(auto, using(crate::proofs::Staying::attempts))]
-fn attempt<'a>(core: Core<'a>, event: Event, reducers: &Reducers) -> Result<Stepped<'a>, AllocError>
-    requires { MayTry core event }
-    ensures tried { IfOk result (λ stepped. Tried stepped.done core.entry stepped.core) }
-    ensures none { IfOk result (λ stepped. stepped.done ≡ false → Cannot core.entry event) }
-{
-    if core.enabled(event) {
-        core.step(event, reducers)
-    } else {
-        Ok(Stepped { core, done: false })
+/// The events of one kind, by the number of a core or of an object.
+#[derive(Clone, Copy)]
+enum Kind {
+    Serve,
+    Take,
+    Run,
+    Close,
+    Ship,
+    Steal,
+}
+
+impl Kind {
+    /// The event with this number. There is one `Serve` alone, and one `Run`.
+    fn event(self, number: u64) -> Event
+        ensures { result ≡ event_of self number }
+    {
+        match self {
+            Kind::Serve => Event::Serve,
+            Kind::Take => Event::Take { from: number },
+            Kind::Run => Event::Run,
+            Kind::Close => Event::Close { object: number },
+            Kind::Ship => Event::Ship { dest: number },
+            Kind::Steal => Event::Steal { victim: number },
+        }
     }
+
+    /// How many events there are of the kind, on so many cores.
+    fn count(self, cores: u64) -> u64
+        ensures { result ≡ count_of self cores }
+    {
+        match self {
+            Kind::Serve | Kind::Run => 1,
+            Kind::Close => HEAP + 1,
+            Kind::Take | Kind::Ship | Kind::Steal => cores,
+        }
+    }
+}
+
+/// Makes the first event of a kind that the core can make.
+#[tactic(auto, using(crate::proofs::Staying::attempts))]
+fn first_of<'a>(core: Core<'a>, kind: Kind, reducers: &Reducers) -> Result<Stepped<'a>, AllocError>
+    requires { MayTry core kind }
+    ensures tried { IfOk result (λ stepped. Tried stepped.done core.entry stepped.core) }
+    ensures none { IfOk result (λ stepped. stepped.done ≡ false → CanMakeNone kind core.entry) }
+{
+    let count = kind.count(core.cores());
+    let mut core = core;
+    'numbers: for number in 0..count {
+        let event = kind.event(number);
+        if core.enabled(event) {
+            let tried = core.step(event, reducers)?;
+            if tried.done {
+                return Ok(tried);
+            }
+            core = tried.core;
+        }
+    }
+    Ok(Stepped { core, done: false })
 }
 
 /// Ships the first full packet that there is room for.
@@ -33,8 +79,9 @@ fn ship_full<'a>(core: Core<'a>, reducers: &Reducers) -> Result<Stepped<'a>, All
     let count = core.cores();
     let mut core = core;
     'dests: for dest in 0..count {
-        if core.full(dest) {
-            let shipped = attempt(core, Event::Ship { dest }, reducers)?;
+        let event = Event::Ship { dest };
+        if core.full(dest) && core.enabled(event) {
+            let shipped = core.step(event, reducers)?;
             if shipped.done {
                 return Ok(shipped);
             }
@@ -44,88 +91,12 @@ fn ship_full<'a>(core: Core<'a>, reducers: &Reducers) -> Result<Stepped<'a>, All
     Ok(Stepped { core, done: false })
 }
 
-/// Takes the first packet that is known.
-#[tactic(auto, using(crate::proofs::Staying::attempts))]
-fn take_any<'a>(core: Core<'a>, reducers: &Reducers) -> Result<Stepped<'a>, AllocError>
-    ensures tried { IfOk result (λ stepped. Tried stepped.done core.entry stepped.core) }
-    ensures none { IfOk result (λ stepped. stepped.done ≡ false
-        → CanMakeNone event.Take core.entry) }
-{
-    let count = core.cores();
-    let mut core = core;
-    'origins: for from in 0..count {
-        let taken = attempt(core, Event::Take { from }, reducers)?;
-        if taken.done {
-            return Ok(taken);
-        }
-        core = taken.core;
-    }
-    Ok(Stepped { core, done: false })
-}
-
-/// Closes the first object that has calls to go off.
-#[tactic(auto, using(crate::proofs::Staying::attempts))]
-fn close_any<'a>(core: Core<'a>, reducers: &Reducers) -> Result<Stepped<'a>, AllocError>
-    ensures tried { IfOk result (λ stepped. Tried stepped.done core.entry stepped.core) }
-    ensures none { IfOk result (λ stepped. stepped.done ≡ false
-        → CanMakeNone event.Close core.entry) }
-{
-    let mut core = core;
-    'objects: for object in 0..HEAP + 1 {
-        let closed = attempt(core, Event::Close { object }, reducers)?;
-        if closed.done {
-            return Ok(closed);
-        }
-        core = closed.core;
-    }
-    Ok(Stepped { core, done: false })
-}
-
-/// Ships the first packet that may go off and that there is room for.
-#[tactic(auto, using(crate::proofs::Staying::attempts))]
-fn ship_ready<'a>(core: Core<'a>, reducers: &Reducers) -> Result<Stepped<'a>, AllocError>
-    ensures tried { IfOk result (λ stepped. Tried stepped.done core.entry stepped.core) }
-    ensures none { IfOk result (λ stepped. stepped.done ≡ false
-        → CanMakeNone event.Ship core.entry) }
-{
-    let count = core.cores();
-    let mut core = core;
-    'dests: for dest in 0..count {
-        let shipped = attempt(core, Event::Ship { dest }, reducers)?;
-        if shipped.done {
-            return Ok(shipped);
-        }
-        core = shipped.core;
-    }
-    Ok(Stepped { core, done: false })
-}
-
-/// Asks the first other core that may be asked for work.
-#[tactic(auto, using(crate::proofs::Staying::attempts))]
-fn steal_any<'a>(core: Core<'a>, reducers: &Reducers) -> Result<Stepped<'a>, AllocError>
-    requires { OnlyAsks (run_of core) (mail_of core) }
-    ensures tried { IfOk result (λ stepped. Tried stepped.done core.entry stepped.core) }
-    ensures none { IfOk result (λ stepped. stepped.done ≡ false
-        → CanMakeNone event.Steal core.entry) }
-{
-    let count = core.cores();
-    let mut core = core;
-    'victims: for victim in 0..count {
-        let asked = attempt(core, Event::Steal { victim }, reducers)?;
-        if asked.done {
-            return Ok(asked);
-        }
-        core = asked.core;
-    }
-    Ok(Stepped { core, done: false })
-}
-
 /// Serves a message, or ships a full packet, or takes one.
 fn do_urgent<'a>(core: Core<'a>, reducers: &Reducers) -> Result<Stepped<'a>, AllocError>
     ensures tried { IfOk result (λ stepped. Tried stepped.done core.entry stepped.core) }
     ensures none { IfOk result (λ stepped. stepped.done ≡ false → HasNoUrgent core.entry) }
 {
-    let served = attempt(core, Event::Serve, reducers)?;
+    let served = first_of(core, Kind::Serve, reducers)?;
     if served.done {
         return Ok(served);
     }
@@ -133,7 +104,7 @@ fn do_urgent<'a>(core: Core<'a>, reducers: &Reducers) -> Result<Stepped<'a>, All
     if shipped.done {
         return Ok(shipped);
     }
-    let taken = take_any(shipped.core, reducers)?;
+    let taken = first_of(shipped.core, Kind::Take, reducers)?;
     Ok(taken)
 }
 
@@ -142,15 +113,15 @@ fn do_work<'a>(core: Core<'a>, reducers: &Reducers) -> Result<Stepped<'a>, Alloc
     ensures tried { IfOk result (λ stepped. Tried stepped.done core.entry stepped.core) }
     ensures none { IfOk result (λ stepped. stepped.done ≡ false → HasNoWork core.entry) }
 {
-    let ran = attempt(core, Event::Run, reducers)?;
+    let ran = first_of(core, Kind::Run, reducers)?;
     if ran.done {
         return Ok(ran);
     }
-    let closed = close_any(ran.core, reducers)?;
+    let closed = first_of(ran.core, Kind::Close, reducers)?;
     if closed.done {
         return Ok(closed);
     }
-    let shipped = ship_ready(closed.core, reducers)?;
+    let shipped = first_of(closed.core, Kind::Ship, reducers)?;
     Ok(shipped)
 }
 
@@ -168,6 +139,6 @@ pub fn advance<'a>(core: Core<'a>, reducers: &Reducers) -> Result<Stepped<'a>, A
     if worked.done {
         return Ok(worked);
     }
-    let asked = steal_any(worked.core, reducers)?;
+    let asked = first_of(worked.core, Kind::Steal, reducers)?;
     Ok(asked)
 }

@@ -22,7 +22,6 @@ rank kind.TooMany = 12
 rank kind.HeapTooLarge = 13
 rank kind.InputTooLong = 14
 rank kind.InputUnknown = 15
-rank kind.NotBuilt = 16
 
 -- The words that a refusal is written with.
 abbrev pub words_of : Kind → List ℕ
@@ -41,7 +40,6 @@ words_of kind.TooMany = codes "too many"
 words_of kind.HeapTooLarge = codes "heap too large"
 words_of kind.InputTooLong = codes "input too long for its array"
 words_of kind.InputUnknown = codes "input of no array"
-words_of kind.NotBuilt = codes "not built"
 
 abbrev pub fault : Kind → Place → Fault
 fault kind at = record { kind = kind; at = at }

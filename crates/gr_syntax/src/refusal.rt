@@ -38,8 +38,6 @@ pub enum Kind {
     InputTooLong,
     /// Numbers for a name that is no array.
     InputUnknown,
-    /// An accepted program whose run isn't built yet.
-    NotBuilt,
 }
 
 impl Kind {
@@ -63,7 +61,6 @@ impl Kind {
             Kind::HeapTooLarge => "heap too large",
             Kind::InputTooLong => "input too long for its array",
             Kind::InputUnknown => "input of no array",
-            Kind::NotBuilt => "not built",
         }
     }
 
@@ -88,7 +85,6 @@ impl Kind {
             Kind::HeapTooLarge => 13,
             Kind::InputTooLong => 14,
             Kind::InputUnknown => 15,
-            Kind::NotBuilt => 16,
         }
     }
 }

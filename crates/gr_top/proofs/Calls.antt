@@ -1,27 +1,25 @@
 -- What the call tells, from the answer that was made and what came of it.
-use Rattle.std.proofs.Common.{◌≡◌, ◌≢◌, ℕ, ◌<◌, ◌≤◌, List, Bool, true, Option, Some, None, sym, ap, ◌∙◌, subst, arith, length, is_some, ◌⊎◌, inl, inr}
-use Rattle.std.specs.Prelude.{IfSome, ◌++◌, String}
+use Rattle.std.proofs.Common.{◌≡◌, ◌≢◌, ℕ, ◌<◌, ◌≤◌, List, Bool, true, Option, Some, None, sym, ap, ◌∙◌, subst, arith, length, is_some}
+use Rattle.std.specs.Prelude.{IfSome, String}
 use Rattle.std.specs.declared.alloc.Global.{Global}
 use Rattle.std.specs.Io.KnownBytes.{Appends}
 use Rattle.gr_syntax.specs.declared.syntax.Program.{Program}
 use Rattle.gr_syntax.specs.declared.refusal.Kind.{Kind}
 use Rattle.gr_syntax.specs.declared.refusal.Fault.{Fault}
 use Rattle.gr_syntax.specs.Faults.{fault}
-use Rattle.gr_lang.specs.Histories.{legal, complete}
 use Rattle.gr_cli.specs.declared.settings.Options.{Options}
-use Rattle.gr_cli.specs.declared.settings.Command.TheVariants.{Run, Check, Replay}
+use Rattle.gr_cli.specs.declared.settings.Command.TheVariants.{Check, Replay}
 use Rattle.gr_replay.specs.Division.{program_part, history_part}
-use Rattle.gr_replay.specs.Judged.{Verdict, Judged}
 use Rattle.gr_replay.specs.Judged as verdict
-use Rattle.gr_top.specs.Commands.{asked, is_on_text, limit_of, is_run}
-use Rattle.gr_top.specs.Due.{accepted, refused, bad_line, judged, Due, told, status_of, Came}
-use Rattle.gr_top.specs.Readings.{ReadsAs, ReplaysAs, IsDue, Answered, IsWorldOf, Refusing}
-use Rattle.gr_top.specs.Texts.{prints}
+use Rattle.gr_top.specs.Readings.{FitsLimit, ReadsAs, ReplaysAs, IsDue}
+use Rattle.gr_top.specs.Due.{accepted, refused, bad_line, judged, Due, Came}
+use Rattle.gr_top.specs.Commands.{asked, is_on_text, limit_of, is_run, text_of}
+use Rattle.gr_top.specs.Promises.{status_of, EndedWell, IsRunStatus, UncertifiedWhere, Answered, IsWorldOf, Refusing}
 use Rattle.gr_top.specs.AnswerView.{made}
 use Rattle.gr_top.specs.declared.answer.Answer.{Answer}
 use Rattle.gr_top.specs.declared.answer.Refusal.{Refusal}
 use Rattle.gr_top.specs.declared.answer.Refusal.TheVariants as r
-use Rattle.gr_top.specs.declared.answer.WorldEnd.{WorldEnd}
+use Rattle.gr_engine.specs.declared.ending.WorldEnd.{WorldEnd}
 use Rattle.gr_hist.specs.Grammar.{ReadsOnce}
 use Rattle.gr_replay.specs.Laws.{JudgedOnce}
 use Rattle.gr_top.proofs.Dues.{answered, own}
@@ -62,13 +60,25 @@ module _ (words : List (String Global)) (a : Answer) (before now : Option (List 
       → ReplaysAs (program_part bytes) (history_part bytes) (bad_line line)
   line_of bytes h line e = line_told words bytes world (made a) (here bytes h) line (sym (mine 10 (ap status_of e) (λ k. omega (arith, k))).0 ∙ e)
 
-  pub headline_of : (bytes : List ℕ) (o : Options) → IsDue words bytes a.world (made a) → IsWorldOf words bytes a.world → status_of refusal ≡ 0 → asked words ≡ Some o → o.command ≡ Run
-      → (p : Program) × (w : WorldEnd) × ReadsAs bytes (accepted p) × (world ≡ Some w) × (legal p o.cores o.steps w.history ≡ true) × (complete p o.cores o.steps w.history ≡ true)
-      × Appends before now (prints w.history ++ told o.history p o.cores o.steps w.history)
+  pub headline_of : (bytes : List ℕ) (o : Options) → IsDue words bytes a.world (made a) → IsWorldOf words bytes a.world → status_of refusal ≡ 0 → asked words ≡ Some o → is_run o.command ≡ true
+      → EndedWell o bytes before now world
   headline_of bytes o h runs s some c =
       let x = mine 0 s (λ k. omega (arith, k)) in
-      let e = headline words bytes world (made a) o (here bytes h) some c (subst (IsWorldOf words bytes) (sym kept) runs) x.2 (ap status_of (sym x.0) ∙ s) in
-      (e.program, e.end, e.reads, e.kept, e.legal, e.complete, subst (Appends before now) e.text x.1)
+      let e = headline words bytes world (made a) o (here bytes h) some c (subst (IsWorldOf words bytes) (sym kept) runs) (ap status_of (sym x.0) ∙ s) in
+      record {
+        program = e.program;
+        reads = e.reads;
+        world = e.world;
+        kept = e.kept;
+        run = e.run;
+        state = e.state;
+        last = e.last;
+        passed = e.passed;
+        written = subst (Appends before now) e.text x.1;
+      }
+
+  pub uncertified_of : (bytes : List ℕ) → UncertifiedWhere words a.refusal bytes → UncertifiedWhere words refusal bytes
+  uncertified_of bytes h e = h (sym (mine 12 (ap status_of e) (λ k. omega (arith, k))).0 ∙ e)
 
   -- Where the sink didn't fail, the refusal is the answer's own.
   unless : ((written : ℕ) → refusal ≢ r.WriteFault written) → refusal ≡ a.refusal
@@ -79,20 +89,16 @@ module _ (words : List (String Global)) (a : Answer) (before now : Option (List 
         → ((written : ℕ) → refusal ≢ r.WriteFault written) → status_of refusal ≡ 0
     check_of bytes o p h few reads some c n = ap status_of (unless n) ∙ due_check lines_once judges_once words bytes world (made a) o p (here bytes h) few reads some c
 
-    pub run_of : (bytes : List ℕ) (o : Options) (p : Program) → IsDue words bytes a.world (made a) → length bytes ≤ limit_of o.command → ReadsAs bytes (accepted p) → asked words ≡ Some o → o.command ≡ Run → is_run o p ≡ true
-        → ((written : ℕ) → refusal ≢ r.WriteFault written) → (status_of refusal ≡ 0) ⊎ (status_of refusal ≡ 3)
-    run_of bytes o p h few reads some c built n =
-        subst (λ (x : Refusal). (status_of x ≡ 0) ⊎ (status_of x ≡ 3)) (sym (unless n)) (due_run_status lines_once judges_once words bytes world (made a) o p (here bytes h) few reads some c built)
+    pub run_of : (bytes : List ℕ) (o : Options) (p : Program) → IsDue words bytes a.world (made a) → FitsLimit o bytes → ReadsAs (text_of o bytes) (accepted p) → asked words ≡ Some o
+        → is_run o.command ≡ true → ((written : ℕ) → refusal ≢ r.WriteFault written) → IsRunStatus (status_of refusal)
+    run_of bytes o p h fits reads some c n =
+        subst (λ (x : Refusal). IsRunStatus (status_of x)) (sym (unless n)) (due_run_status lines_once judges_once words bytes world (made a) o p (here bytes h) fits reads some c)
 
     pub replay_of : (bytes : List ℕ) (o : Options) (b : Bool) → IsDue words bytes a.world (made a) → length bytes ≤ limit_of o.command
         → ReplaysAs (program_part bytes) (history_part bytes) (judged (verdict.legal b)) → asked words ≡ Some o → o.command ≡ Replay
         → ((written : ℕ) → refusal ≢ r.WriteFault written) → status_of refusal ≡ 0
     replay_of bytes o b h few found some c n = ap status_of (unless n) ∙ due_legal lines_once judges_once words bytes world (made a) o b (here bytes h) few found some c
 
-    pub refuse_of : (bytes : List ℕ) (o : Options) (f : Fault) → IsDue words bytes a.world (made a) → length bytes ≤ limit_of o.command → ReadsAs bytes (refused f) → asked words ≡ Some o → is_on_text o.command ≡ true
+    pub refuse_of : (bytes : List ℕ) (o : Options) (f : Fault) → IsDue words bytes a.world (made a) → FitsLimit o bytes → ReadsAs (text_of o bytes) (refused f) → asked words ≡ Some o → is_on_text o.command ≡ true
         → ((written : ℕ) → refusal ≢ r.WriteFault written) → refusal ≡ r.Refused f.kind f.at.line f.at.column
     refuse_of bytes o f h few reads some on n = unless n ∙ ap (λ (d : Due). d.refusal) (due_refusal lines_once judges_once words bytes world (made a) o f (here bytes h) few reads some on)
-
-pub either_of : (status n : ℕ) → status ≡ n → (n ≡ 0) ⊎ (n ≡ 3) → (status ≡ 0) ⊎ ((status ≡ 3) ⊎ (status ≡ 6))
-either_of status n e (inl h) = inl (e ∙ h)
-either_of status n e (inr h) = inr (inl (e ∙ h))

@@ -1,6 +1,6 @@
 -- What is counted where the refusal is no fault of the source.
 use Rattle.std.proofs.Common.{◌≡◌, ◌≢◌, ℕ, refl}
-use Rattle.gr_top.specs.Counts.{CountsReads}
+use Rattle.gr_top.specs.Promises.{CountsReads}
 use Rattle.gr_top.specs.declared.answer.Refusal.{Refusal}
 use Rattle.gr_top.specs.declared.answer.Refusal.TheVariants as refusal
 

@@ -1,5 +1,5 @@
 -- The answer due, from what the parts of the call made, and what came of it.
-use Rattle.std.proofs.Common.{◌≡◌, ◌≢◌, ℕ, ◌<◌, ◌≤◌, List, true, false, Option, Some, None, refl, sym, ap, subst, length, is_some}
+use Rattle.std.proofs.Common.{◌≡◌, ◌≢◌, ℕ, ◌<◌, ◌≤◌, List, true, false, Option, Some, None, refl, sym, ap, ◌∙◌, subst, length, is_some}
 use Rattle.std.specs.Prelude.{IfSome, String}
 use Rattle.std.specs.declared.alloc.Global.{Global}
 use Rattle.std.specs.Io.KnownBytes.{Appends}
@@ -8,15 +8,20 @@ use Rattle.gr_cli.specs.declared.settings.Options.{Options}
 use Rattle.gr_cli.specs.declared.settings.Command.{Command}
 use Rattle.gr_cli.specs.declared.settings.Command.TheVariants.{Run, Check, Replay, Bench}
 use Rattle.gr_replay.specs.Division.{program_part, history_part}
-use Rattle.gr_top.specs.Commands.{asked, is_on_text, is_replay, is_read, limit_of}
-use Rattle.gr_top.specs.Due.{Reading, accepted, Replayed, Due, due_usage, due_too_long, due_read, due_refused, due_replayed, not_built, Came}
-use Rattle.gr_top.specs.Readings.{ReadsAs, ReplaysAs, IsDue, Answered, IsRunOf, IsWorldOf}
+use Rattle.gr_gen.specs.Programs.{bench_text}
+use Rattle.gr_replay.specs.Judged.{Verdict}
+use Rattle.gr_replay.specs.Judged as verdict
+use Rattle.gr_engine.specs.Runs.{IsUncertified}
+use Rattle.gr_top.specs.Readings.{ReadsAs, ReplaysAs, IsDue, FitsLimit}
+use Rattle.gr_top.specs.Due.{Reading, accepted, Replayed, unread, bad_line, judged, Due, due_usage, due_too_long, due_read, due_judged, due_replayed, Came}
+use Rattle.gr_top.specs.Commands.{asked, is_on_text, is_replay, is_read, limit_of, setup_of, text_of}
+use Rattle.gr_top.specs.Promises.{UncertifiedWhere, Answered, IsRunOf, IsWorldOf}
 use Rattle.gr_top.specs.Texts.{usage_text, too_long_text}
 use Rattle.gr_top.specs.AnswerView.{made}
 use Rattle.gr_top.specs.declared.answer.Answer.{Answer}
 use Rattle.gr_top.specs.declared.answer.Refusal.{Refusal}
 use Rattle.gr_top.specs.declared.answer.Refusal.TheVariants as r
-use Rattle.gr_top.specs.declared.answer.WorldEnd.{WorldEnd}
+use Rattle.gr_engine.specs.declared.ending.WorldEnd.{WorldEnd}
 
 pub if_some : {A : Type 0} {P : A → Type 0} (o : Option A) → ((a : A) → o ≡ Some a → P a) → IfSome o P
 if_some None h = tt
@@ -37,18 +42,38 @@ pub made_usage : (words : List (String Global)) (bytes : List ℕ) (a : Answer) 
     → IsDue words bytes a.world (made a)
 made_usage words bytes a none x y z = subst (λ (d : Due). IsDue words bytes a.world d) (sym (is_made a due_usage x y (ap is_some z))) (IsDue.usage none)
 
-pub made_bench : (words : List (String Global)) (bytes : List ℕ) (a : Answer) (o : Options) → asked words ≡ Some o → is_read o.command ≡ false → made a ≡ due_refused not_built
-    → IsDue words bytes a.world (made a)
-made_bench words bytes a o some none e = subst (λ (d : Due). IsDue words bytes a.world d) (sym e) (IsDue.bench o some none)
-
 pub made_too_long : (words : List (String Global)) (bytes : List ℕ) (a : Answer) (o : Options) → asked words ≡ Some o → is_read o.command ≡ true → limit_of o.command < length bytes
     → a.refusal ≡ r.TooLong → a.text.items ≡ too_long_text → a.world ≡ None → IsDue words bytes a.world (made a)
 made_too_long words bytes a o some reads more x y z =
     subst (λ (d : Due). IsDue words bytes a.world d) (sym (is_made a due_too_long x y (ap is_some z))) (IsDue.too_long o some reads more)
 
-pub made_read : (words : List (String Global)) (bytes : List ℕ) (a : Answer) (o : Options) → asked words ≡ Some o → is_on_text o.command ≡ true → length bytes ≤ limit_of o.command
-    → ((reading : Reading) × ReadsAs bytes reading × (due_read o reading a.world ≡ Some (made a))) → IsDue words bytes a.world (made a)
-made_read words bytes a o some on few h = IsDue.read o some on few h.1 h.2
+pub made_on_text : (words : List (String Global)) (bytes : List ℕ) (a : Answer) (o : Options) → asked words ≡ Some o → is_on_text o.command ≡ true → FitsLimit o bytes
+    → ((reading : Reading) × ReadsAs (text_of o bytes) reading × (made a ≡ due_read o reading a.world)) → IsDue words bytes a.world (made a)
+made_on_text words bytes a o some on fits h = subst (λ (d : Due). IsDue words bytes a.world d) (sym h.2) (IsDue.read o some on fits h.1)
+
+-- A command that reads the source is on what that holds; a bench is on its own text.
+source_text : (o : Options) (bytes : List ℕ) → is_read o.command ≡ true → bytes ≡ text_of o bytes
+source_text o bytes reads = rw reads refl
+
+bench_text_of : (o : Options) (bytes : List ℕ) → is_read o.command ≡ false → bench_text o.kind o.size o.seed ≡ text_of o bytes
+bench_text_of o bytes own = rw own refl
+
+pub made_read : (words : List (String Global)) (bytes : List ℕ) (a : Answer) (o : Options) → asked words ≡ Some o → is_read o.command ≡ true → is_on_text o.command ≡ true
+    → length bytes ≤ limit_of o.command → ((reading : Reading) × ReadsAs bytes reading × (made a ≡ due_read o reading a.world)) → IsDue words bytes a.world (made a)
+made_read words bytes a o some reads on few h =
+    made_on_text words bytes a o some on (λ k. few) (h.0, subst (λ (text : List ℕ). ReadsAs text h.0) (source_text o bytes reads) h.1, h.2)
+
+bench_is_on_text : (c : Command) → is_read c ≡ false → is_on_text c ≡ true
+bench_is_on_text Bench h = refl
+bench_is_on_text _ h = cc
+
+never_read : (o : Options) (bytes : List ℕ) → is_read o.command ≡ false → FitsLimit o bytes
+never_read o bytes own reads = let k : false ≡ true = sym own ∙ reads in cc
+
+pub made_bench : (words : List (String Global)) (bytes : List ℕ) (a : Answer) (o : Options) → asked words ≡ Some o → is_read o.command ≡ false
+    → ((reading : Reading) × ReadsAs (bench_text o.kind o.size o.seed) reading × (made a ≡ due_read o reading a.world)) → IsDue words bytes a.world (made a)
+made_bench words bytes a o some own h =
+    made_on_text words bytes a o some (bench_is_on_text o.command own) (never_read o bytes own) (h.0, subst (λ (text : List ℕ). ReadsAs text h.0) (bench_text_of o bytes own) h.1, h.2)
 
 pub made_replayed : (words : List (String Global)) (bytes : List ℕ) (a : Answer) (o : Options) → asked words ≡ Some o → is_replay o.command ≡ true → length bytes ≤ limit_of o.command
     → ((found : Replayed) × ReplaysAs (program_part bytes) (history_part bytes) found × (made a ≡ due_replayed found)) → IsDue words bytes a.world (made a)
@@ -59,13 +84,49 @@ pub on_text_of : (c : Command) → is_read c ≡ true → is_replay c ≡ false 
 on_text_of Run h k = refl
 on_text_of Check h k = refl
 on_text_of Replay h k = cc
-on_text_of Bench h k = cc
+on_text_of Bench h k = refl
 
 -- A run that was made is one of the words and the bytes.
-pub made_world : (words : List (String Global)) (bytes : List ℕ) (world : Option WorldEnd) (o : Options) → asked words ≡ Some o
-    → IfSome world (λ w. (p : Program) × ReadsAs bytes (accepted p) × IsRunOf o p w) → IsWorldOf words bytes world
+made_world : (words : List (String Global)) (bytes : List ℕ) (world : Option WorldEnd) (o : Options) → asked words ≡ Some o
+    → IfSome world (λ w. (p : Program) × ReadsAs (text_of o bytes) (accepted p) × IsRunOf o p w) → IsWorldOf words bytes world
 made_world words bytes None o some h = tt
 made_world words bytes (Some w) o some h = record { options = o; asked = some; program = h.0; reads = h.1; run = h.2 }
+
+abbrev WorldFrom : Options → Option WorldEnd → List ℕ → Type 0
+WorldFrom o world text = IfSome world (λ w. (p : Program) × ReadsAs text (accepted p) × IsRunOf o p w)
+
+pub read_world : (words : List (String Global)) (bytes : List ℕ) (world : Option WorldEnd) (o : Options) → asked words ≡ Some o → is_read o.command ≡ true
+    → IfSome world (λ w. (p : Program) × ReadsAs bytes (accepted p) × IsRunOf o p w) → IsWorldOf words bytes world
+read_world words bytes world o some reads h = made_world words bytes world o some (subst (WorldFrom o world) (source_text o bytes reads) h)
+
+pub bench_world : (words : List (String Global)) (bytes : List ℕ) (world : Option WorldEnd) (o : Options) → asked words ≡ Some o → is_read o.command ≡ false
+    → IfSome world (λ w. (p : Program) × ReadsAs (bench_text o.kind o.size o.seed) (accepted p) × IsRunOf o p w) → IsWorldOf words bytes world
+bench_world words bytes world o some own h = made_world words bytes world o some (subst (WorldFrom o world) (bench_text_of o bytes own) h)
+
+-- The same of a run that isn't certified.
+pub read_uncertified : (words : List (String Global)) (bytes : List ℕ) (refusal : Refusal) (o : Options) → asked words ≡ Some o → is_read o.command ≡ true
+    → (refusal ≡ r.Uncertified → (p : Program) × ReadsAs bytes (accepted p) × IsUncertified (setup_of o) p) → UncertifiedWhere words refusal bytes
+read_uncertified words bytes refusal o some reads h e =
+    let k = h e in (o, k.0, some, subst (λ (text : List ℕ). ReadsAs text (accepted k.0)) (source_text o bytes reads) k.1, k.2)
+
+pub bench_uncertified : (words : List (String Global)) (bytes : List ℕ) (refusal : Refusal) (o : Options) → asked words ≡ Some o → is_read o.command ≡ false
+    → (refusal ≡ r.Uncertified → (p : Program) × ReadsAs (bench_text o.kind o.size o.seed) (accepted p) × IsUncertified (setup_of o) p) → UncertifiedWhere words refusal bytes
+bench_uncertified words bytes refusal o some own h e =
+    let k = h e in (o, k.0, some, subst (λ (text : List ℕ). ReadsAs text (accepted k.0)) (bench_text_of o bytes own) k.1, k.2)
+
+-- A replay is never said not to be certified.
+judged_certified : (v : Verdict) → (due_judged v).refusal ≡ r.Uncertified → ⊥
+judged_certified (verdict.legal b) e = cc
+judged_certified (verdict.not_legal n) e = cc
+
+replay_certified : (found : Replayed) → (due_replayed found).refusal ≡ r.Uncertified → ⊥
+replay_certified (unread f) e = cc
+replay_certified (bad_line n) e = cc
+replay_certified (judged v) e = judged_certified v e
+
+pub replayed_uncertified : (words : List (String Global)) (bytes : List ℕ) (a : Answer)
+    → ((found : Replayed) × ReplaysAs (program_part bytes) (history_part bytes) found × (made a ≡ due_replayed found)) → UncertifiedWhere words a.refusal bytes
+replayed_uncertified words bytes a h e = absurd (replay_certified h.0 (ap (λ (d : Due). d.refusal) (sym h.2) ∙ e))
 
 -- ---- what came of it
 
@@ -81,6 +142,9 @@ answered words bytes before now (r.WriteFault written) world d h came a b = (d, 
 answered words bytes before now r.TooLong world d h came a b = (d, h, came)
 answered words bytes before now (r.NotLegal entry) world d h came a b = (d, h, came)
 answered words bytes before now (r.BadLine line) world d h came a b = (d, h, came)
+answered words bytes before now (r.EventLimit core clock) world d h came a b = (d, h, came)
+answered words bytes before now r.Stalled world d h came a b = (d, h, came)
+answered words bytes before now r.Uncertified world d h came a b = (d, h, came)
 
 -- The refusal is the answer's own, unless the sink failed.
 pub own : (d : Due) (before now : Option (List ℕ)) (refusal : Refusal) (world : Option WorldEnd) → Came d before now refusal world
@@ -95,3 +159,6 @@ own d before now (r.Trap kind task) world h other = h
 own d before now r.TooLong world h other = h
 own d before now (r.NotLegal entry) world h other = h
 own d before now (r.BadLine line) world h other = h
+own d before now (r.EventLimit core clock) world h other = h
+own d before now r.Stalled world h other = h
+own d before now r.Uncertified world h other = h

@@ -9,20 +9,19 @@ use Rattle.gr_cli.specs.declared.settings.Command.{Command}
 use Rattle.gr_cli.specs.declared.settings.Command.TheVariants.{Run, Check, Replay, Bench}
 use Rattle.gr_hist.specs.declared.text.HistoryText.{HistoryText}
 use Rattle.gr_replay.specs.Division.{program_part, history_part}
-use Rattle.gr_replay.specs.Judged.{Verdict, Judged}
+use Rattle.gr_replay.specs.Judged.{Judged}
 use Rattle.gr_replay.specs.Judged as verdict
-use Rattle.gr_top.specs.Commands.{asked, is_on_text, is_replay, is_read, limit_of, is_run}
-use Rattle.gr_top.specs.Due.{Reading, accepted, refused, Replayed, unread, bad_line, judged, Due, due_read, due_refused, due_accepted, due_run, due_replayed, due_judged, not_built, status_of}
-use Rattle.gr_top.specs.Readings.{ReadsAs, ReplaysAs, IsDue}
-use Rattle.gr_top.specs.declared.answer.WorldEnd.{WorldEnd}
+use Rattle.gr_gen.specs.Programs.{bench_text}
+use Rattle.gr_engine.specs.declared.ending.WorldEnd.{WorldEnd}
+use Rattle.gr_top.specs.Readings.{FitsLimit, ReadsAs, ReplaysAs, IsDue}
+use Rattle.gr_top.specs.Due.{Reading, accepted, refused, Replayed, unread, bad_line, judged, Due, due_read, due_refused, due_accepted, due_run, due_replayed, due_judged}
+use Rattle.gr_top.specs.Commands.{asked, is_on_text, is_replay, is_read, is_run, limit_of, text_of}
+use Rattle.gr_top.specs.Promises.{status_of}
 use Rattle.gr_hist.specs.Grammar.{ReadsOnce}
 use Rattle.gr_replay.specs.Laws.{JudgedOnce}
 use Rattle.std.proofs.Common.{Ok, Err}
 use Rattle.gr_top.proofs.Once.{once}
-use Rattle.gr_top.specs.Due.{said}
-use Rattle.gr_top.specs.Texts.{accepted_text}
-use Rattle.gr_top.specs.declared.answer.Refusal.TheVariants.{Nothing}
-use Rattle.gr_top.proofs.Told.{IsRunStatus, run_status, told_of}
+use Rattle.gr_top.proofs.Told.{IsRan, run_status}
 
 same_options : (words : List (String Global)) (o q : Options) → asked words ≡ Some o → asked words ≡ Some q → o ≡ q
 same_options words o q x y = let k : Some o ≡ Some q = sym x ∙ y in cc
@@ -34,12 +33,6 @@ some_options words o e none = let k : Some o ≡ None = sym e ∙ none in cc
 apart : (words : List (String Global)) (o q : Options) (f : Command → Bool) → asked words ≡ Some o → asked words ≡ Some q → f o.command ≡ true → f q.command ≡ false → ⊥
 apart words o q f x y h k = let e : true ≡ false = sym h ∙ ap (λ (z : Options). f z.command) (same_options words o q x y) ∙ k in cc
 
-text_is_read : (c : Command) → is_on_text c ≡ true → is_read c ≡ true
-text_is_read Run e = refl
-text_is_read Check e = refl
-text_is_read Replay e = refl
-text_is_read Bench e = cc
-
 replay_is_read : (c : Command) → is_replay c ≡ true → is_read c ≡ true
 replay_is_read Run e = refl
 replay_is_read Check e = refl
@@ -50,6 +43,9 @@ replay_is_no_text : (c : Command) → is_replay c ≡ true → is_on_text c ≡ 
 replay_is_no_text Replay e = refl
 replay_is_no_text _ e = cc
 
+same_bytes : (words : List (String Global)) (o q : Options) (bytes : List ℕ) → asked words ≡ Some o → asked words ≡ Some q → text_of o bytes ≡ text_of q bytes
+same_bytes words o q bytes x y = ap (λ (z : Options). text_of z bytes) (same_options words o q x y)
+
 same_program : (text : List ℕ) (p q : Program) → ReadsAs text (accepted p) → ReadsAs text (accepted q) → p ≡ q
 same_program text p q h k = let e : accepted p ≡ accepted q = once text (accepted p) (accepted q) h k in cc
 
@@ -57,9 +53,11 @@ no_reading : (text : List ℕ) (p : Program) (f : Fault) → ReadsAs text (accep
 no_reading text p f h k = let e : accepted p ≡ refused f = once text (accepted p) (refused f) h k in cc
 
 -- What is due of a reading is one for all options and readings of the same words and text.
-same_due : (words : List (String Global)) (bytes : List ℕ) (world : Option WorldEnd) (x y : Reading) (o q : Options) → asked words ≡ Some o → asked words ≡ Some q → ReadsAs bytes x → ReadsAs bytes y
+same_due : (words : List (String Global)) (bytes : List ℕ) (world : Option WorldEnd) (x y : Reading) (o q : Options) → asked words ≡ Some o → asked words ≡ Some q → ReadsAs (text_of o bytes) x → ReadsAs (text_of q bytes) y
     → due_read o x world ≡ due_read q y world
-same_due words bytes world x y o q some also h k = ap (λ (z : Options). due_read z x world) (same_options words o q some also) ∙ ap (λ (z : Reading). due_read q z world) (once bytes x y h k)
+same_due words bytes world x y o q some also h k =
+    ap (λ (z : Options). due_read z x world) (same_options words o q some also)
+    ∙ ap (λ (z : Reading). due_read q z world) (once (text_of q bytes) x y (subst (λ (text : List ℕ). ReadsAs text x) (same_bytes words o q bytes some also) h) k)
 
 module _ (lines_once : ReadsOnce) (judges_once : JudgedOnce) where
   pub replays_once : (text history : List ℕ) (x y : Replayed) → ReplaysAs text history x → ReplaysAs text history y → x ≡ y
@@ -86,34 +84,24 @@ module _ (lines_once : ReadsOnce) (judges_once : JudgedOnce) where
 
   pub due_once : (words : List (String Global)) (bytes : List ℕ) (world : Option WorldEnd) (d e : Due) → IsDue words bytes world d → IsDue words bytes world e → d ≡ e
   due_once words bytes world _ _ (IsDue.usage h) (IsDue.usage k) = refl
-  due_once words bytes world _ _ (IsDue.usage h) (IsDue.bench o some none) = absurd (some_options words o some h)
   due_once words bytes world _ _ (IsDue.usage h) (IsDue.too_long o some reads more) = absurd (some_options words o some h)
-  due_once words bytes world _ _ (IsDue.usage h) (IsDue.read o some on few k x) = absurd (some_options words o some h)
+  due_once words bytes world _ _ (IsDue.usage h) (IsDue.read o some on fits k) = absurd (some_options words o some h)
   due_once words bytes world _ _ (IsDue.usage h) (IsDue.replayed o some on few k) = absurd (some_options words o some h)
-  due_once words bytes world _ _ (IsDue.bench o some none) (IsDue.usage k) = absurd (some_options words o some k)
-  due_once words bytes world _ _ (IsDue.bench o some none) (IsDue.bench q also nor) = refl
-  due_once words bytes world _ _ (IsDue.bench o some none) (IsDue.too_long q also reads more) = absurd (apart words q o is_read also some reads none)
-  due_once words bytes world _ _ (IsDue.bench o some none) (IsDue.read q also on few k x) = absurd (apart words q o is_read also some (text_is_read q.command on) none)
-  due_once words bytes world _ _ (IsDue.bench o some none) (IsDue.replayed q also on few k) = absurd (apart words q o is_read also some (replay_is_read q.command on) none)
   due_once words bytes world _ _ (IsDue.too_long o some reads more) (IsDue.usage k) = absurd (some_options words o some k)
-  due_once words bytes world _ _ (IsDue.too_long o some reads more) (IsDue.bench q also none) = absurd (apart words o q is_read some also reads none)
   due_once words bytes world _ _ (IsDue.too_long o some reads more) (IsDue.too_long q also sees too) = refl
-  due_once words bytes world _ _ (IsDue.too_long o some reads more) (IsDue.read q also on few k x) =
-      absurd (omega (arith, more, few, ap (λ (z : Options). limit_of z.command) (same_options words o q some also)))
+  due_once words bytes world _ _ (IsDue.too_long o some reads more) (IsDue.read q also on fits k) =
+      absurd (omega (arith, more, fits (ap (λ (z : Options). is_read z.command) (sym (same_options words o q some also)) ∙ reads), ap (λ (z : Options). limit_of z.command) (same_options words o q some also)))
   due_once words bytes world _ _ (IsDue.too_long o some reads more) (IsDue.replayed q also on few k) =
       absurd (omega (arith, more, few, ap (λ (z : Options). limit_of z.command) (same_options words o q some also)))
-  due_once words bytes world _ _ (IsDue.read o some on few h x) (IsDue.usage k) = absurd (some_options words o some k)
-  due_once words bytes world _ _ (IsDue.read o some on few h x) (IsDue.bench q also none) = absurd (apart words o q is_read some also (text_is_read o.command on) none)
-  due_once words bytes world _ _ (IsDue.read o some on few h x) (IsDue.too_long q also reads more) =
-      absurd (omega (arith, more, few, ap (λ (z : Options). limit_of z.command) (same_options words o q some also)))
-  due_once words bytes world _ _ (IsDue.read {reading = x} {due = d} o some on few h i) (IsDue.read {reading = y} {due = e} q also off less k j) =
-      let both : Some d ≡ Some e = sym i ∙ same_due words bytes world x y o q some also h k ∙ j in cc
-  due_once words bytes world _ _ (IsDue.read o some on few h x) (IsDue.replayed q also off less k) = absurd (apart words o q is_on_text some also on (replay_is_no_text q.command off))
+  due_once words bytes world _ _ (IsDue.read o some on fits h) (IsDue.usage k) = absurd (some_options words o some k)
+  due_once words bytes world _ _ (IsDue.read o some on fits h) (IsDue.too_long q also reads more) =
+      absurd (omega (arith, more, fits (ap (λ (z : Options). is_read z.command) (same_options words o q some also) ∙ reads), ap (λ (z : Options). limit_of z.command) (same_options words o q some also)))
+  due_once words bytes world _ _ (IsDue.read {reading = x} o some on fits h) (IsDue.read {reading = y} q also off within k) = same_due words bytes world x y o q some also h k
+  due_once words bytes world _ _ (IsDue.read o some on fits h) (IsDue.replayed q also off less k) = absurd (apart words o q is_on_text some also on (replay_is_no_text q.command off))
   due_once words bytes world _ _ (IsDue.replayed o some on few h) (IsDue.usage k) = absurd (some_options words o some k)
-  due_once words bytes world _ _ (IsDue.replayed o some on few h) (IsDue.bench q also none) = absurd (apart words o q is_read some also (replay_is_read o.command on) none)
   due_once words bytes world _ _ (IsDue.replayed o some on few h) (IsDue.too_long q also reads more) =
       absurd (omega (arith, more, few, ap (λ (z : Options). limit_of z.command) (same_options words o q some also)))
-  due_once words bytes world _ _ (IsDue.replayed o some on few h) (IsDue.read q also off less k x) = absurd (apart words q o is_on_text also some off (replay_is_no_text o.command on))
+  due_once words bytes world _ _ (IsDue.replayed o some on few h) (IsDue.read q also off fits k) = absurd (apart words q o is_on_text also some off (replay_is_no_text o.command on))
   due_once words bytes world _ _ (IsDue.replayed {r = x} o some on few h) (IsDue.replayed {r = y} q also off less k) =
       ap due_replayed (replays_once (program_part bytes) (history_part bytes) x y h k)
 
@@ -122,35 +110,48 @@ module _ (lines_once : ReadsOnce) (judges_once : JudgedOnce) where
 
   -- Of a text that is read it is the answer to what it reads as.
   due_of_reading : (words : List (String Global)) (bytes : List ℕ) (world : Option WorldEnd) (d : Due) (o : Options) (reading : Reading)
-      → IsDue words bytes world d → length bytes ≤ limit_of o.command → ReadsAs bytes reading → asked words ≡ Some o → is_on_text o.command ≡ true → due_read o reading world ≡ Some d
-  due_of_reading words bytes world _ o reading (IsDue.usage none) few reads some on = absurd (some_options words o some none)
-  due_of_reading words bytes world _ o reading (IsDue.bench q also none) few reads some on = absurd (apart words o q is_read some also (text_is_read o.command on) none)
-  due_of_reading words bytes world _ o reading (IsDue.too_long q also sees more) few reads some on =
-      absurd (omega (arith, more, few, ap (λ (z : Options). limit_of z.command) (same_options words o q some also)))
-  due_of_reading words bytes world _ o reading (IsDue.read {reading = y} q also off less k e) few reads some on = same_due words bytes world reading y o q some also reads k ∙ e
-  due_of_reading words bytes world _ o reading (IsDue.replayed q also off less k) few reads some on = absurd (apart words o q is_on_text some also on (replay_is_no_text q.command off))
+      → IsDue words bytes world d → FitsLimit o bytes → ReadsAs (text_of o bytes) reading → asked words ≡ Some o → is_on_text o.command ≡ true → due_read o reading world ≡ d
+  due_of_reading words bytes world _ o reading (IsDue.usage none) fits reads some on = absurd (some_options words o some none)
+  due_of_reading words bytes world _ o reading (IsDue.too_long q also sees more) fits reads some on =
+      absurd (omega (arith, more, fits (ap (λ (z : Options). is_read z.command) (same_options words o q some also) ∙ sees), ap (λ (z : Options). limit_of z.command) (same_options words o q some also)))
+  due_of_reading words bytes world _ o reading (IsDue.read {reading = y} q also off within k) fits reads some on = same_due words bytes world reading y o q some also reads k
+  due_of_reading words bytes world _ o reading (IsDue.replayed q also off less k) fits reads some on = absurd (apart words o q is_on_text some also on (replay_is_no_text q.command off))
+
+  check_reads : (o : Options) (bytes : List ℕ) → o.command ≡ Check → bytes ≡ text_of o bytes
+  check_reads o bytes c = ap (λ (x : Command). if is_read x then bytes else bench_text o.kind o.size o.seed) (sym c)
+
+  check_on : (o : Options) → o.command ≡ Check → is_on_text o.command ≡ true
+  check_on o c = ap is_on_text c
 
   pub due_check : (words : List (String Global)) (bytes : List ℕ) (world : Option WorldEnd) (d : Due) (o : Options) (p : Program)
       → IsDue words bytes world d → length bytes ≤ limit_of o.command → ReadsAs bytes (accepted p) → asked words ≡ Some o → o.command ≡ Check → status_of d.refusal ≡ 0
   due_check words bytes world d o p h few reads some c =
-      let e : due_accepted Check o p world ≡ Some d = sym (ap (λ (x : Command). due_accepted x o p world) c) ∙ due_of_reading words bytes world d o (accepted p) h few reads some (on_text o.command Check c refl) in
-      let same : said Nothing accepted_text ≡ d = cc in
-      ap (λ (x : Due). status_of x.refusal) (sym same)
+      let e : due_accepted o.command o p world ≡ d =
+      due_of_reading words bytes world d o (accepted p) h (λ k. few) (subst (λ (text : List ℕ). ReadsAs text (accepted p)) (check_reads o bytes c) reads) some (check_on o c) in
+      ap (λ (x : Due). status_of x.refusal) (sym e) ∙ ap (λ (x : Command). status_of (due_accepted x o p world).refusal) c
+
+  run_on : (c : Command) → is_run c ≡ true → is_on_text c ≡ true
+  run_on Run h = refl
+  run_on Bench h = refl
+  run_on Check h = cc
+  run_on Replay h = cc
+
+  run_due : (c : Command) (o : Options) (p : Program) (world : Option WorldEnd) → is_run c ≡ true → due_accepted c o p world ≡ due_run o p world
+  run_due Run o p world h = refl
+  run_due Bench o p world h = refl
+  run_due Check o p world h = cc
+  run_due Replay o p world h = cc
 
   pub due_run_status : (words : List (String Global)) (bytes : List ℕ) (world : Option WorldEnd) (d : Due) (o : Options) (p : Program)
-      → IsDue words bytes world d → length bytes ≤ limit_of o.command → ReadsAs bytes (accepted p) → asked words ≡ Some o → o.command ≡ Run → is_run o p ≡ true → IsRunStatus d
-  due_run_status words bytes world d o p h few reads some c built =
-      let e : due_run o p world ≡ Some d =
-      sym (ap (λ (b : Bool). if b then due_run o p world else Some (due_refused not_built)) built) ∙ sym (ap (λ (x : Command). due_accepted x o p world) c)
-      ∙ due_of_reading words bytes world d o (accepted p) h few reads some (on_text o.command Run c refl) in
-      told_of IsRunStatus (due_run o p world) d e (run_status o p world)
+      → IsDue words bytes world d → FitsLimit o bytes → ReadsAs (text_of o bytes) (accepted p) → asked words ≡ Some o → is_run o.command ≡ true → IsRan d
+  due_run_status words bytes world d o p h fits reads some c =
+      let e : due_run o p world ≡ d = sym (run_due o.command o p world c) ∙ due_of_reading words bytes world d o (accepted p) h fits reads some (run_on o.command c) in
+      subst IsRan e (run_status o p world)
 
   -- A refused text is refused.
   pub due_refusal : (words : List (String Global)) (bytes : List ℕ) (world : Option WorldEnd) (d : Due) (o : Options) (f : Fault)
-      → IsDue words bytes world d → length bytes ≤ limit_of o.command → ReadsAs bytes (refused f) → asked words ≡ Some o → is_on_text o.command ≡ true → d ≡ due_refused f
-  due_refusal words bytes world d o f h few reads some on =
-      let e : Some (due_refused f) ≡ Some d = due_of_reading words bytes world d o (refused f) h few reads some on in
-      let same : due_refused f ≡ d = cc in sym same
+      → IsDue words bytes world d → FitsLimit o bytes → ReadsAs (text_of o bytes) (refused f) → asked words ≡ Some o → is_on_text o.command ≡ true → d ≡ due_refused f
+  due_refusal words bytes world d o f h fits reads some on = sym (due_of_reading words bytes world d o (refused f) h fits reads some on)
 
   -- A legal history is said to be legal.
   pub due_legal : (words : List (String Global)) (bytes : List ℕ) (world : Option WorldEnd) (d : Due) (o : Options) (b : Bool)

@@ -1,80 +1,121 @@
--- A run that ended well: its history is legal and complete, and its prints are due.
-use Rattle.std.proofs.Common.{◌≡◌, ℕ, List, Bool, true, false, Option, Some, None, refl, sym, ap, ◌∙◌, subst, arith, is_some}
-use Rattle.std.specs.Prelude.{◌++◌, [], String, if◌then◌else◌}
+-- A run that ended well: its history is legal and complete, and its text is due.
+use Rattle.std.proofs.Common.{◌≡◌, ℕ, List, Bool, true, false, Option, Some, None, refl, sym, ap, ◌∙◌, subst, arith}
+use Rattle.std.specs.Prelude.{String}
 use Rattle.std.specs.declared.alloc.Global.{Global}
-use Rattle.std.specs.Option.{option_map}
 use Rattle.gr_syntax.specs.declared.syntax.Program.{Program}
-use Rattle.gr_lang.specs.Histories.{legal, complete}
+use Rattle.gr_lang.specs.Histories.{final}
+use Rattle.gr_lang.specs.States.{State}
 use Rattle.gr_cli.specs.declared.settings.Options.{Options}
 use Rattle.gr_cli.specs.declared.settings.Command.{Command}
-use Rattle.gr_cli.specs.declared.settings.Command.TheVariants.{Run}
-use Rattle.gr_top.specs.Commands.{asked, is_replay, is_run}
-use Rattle.gr_top.specs.Due.{Reading, accepted, refused, Due, due_read, due_refused, due_accepted, due_run, due_of_run, due_trapped, told, followed, not_built, status_of}
-use Rattle.gr_top.specs.Readings.{ReadsAs, IsDue, IsRunOf, IsWorldOf}
-use Rattle.gr_top.specs.Texts.{prints, first_trap}
-use Rattle.gr_top.specs.declared.answer.WorldEnd.{WorldEnd}
-use Rattle.gr_top.specs.declared.texts.TrapAt.{TrapAt}
+use Rattle.gr_cli.specs.declared.settings.Command.TheVariants.{Run, Check, Replay, Bench}
+use Rattle.gr_engine.specs.declared.ending.WorldEnd.{WorldEnd}
+use Rattle.gr_engine.specs.Ends.{Ended, complete, ended_as, ended_at, ended_open}
+use Rattle.gr_report.specs.Ends.{first_limit}
+use Rattle.gr_report.specs.Texts.{first_trap}
+use Rattle.gr_report.specs.declared.texts.TrapAt.{TrapAt}
+use Rattle.gr_report.specs.declared.ends.LimitAt.{LimitAt}
+use Rattle.gr_engine.specs.Runs.{IsMachineRun}
+use Rattle.gr_top.specs.Readings.{ReadsAs, IsDue}
+use Rattle.gr_top.specs.Due.{Reading, accepted, refused, Due, due_read, due_accepted, due_ended, due_run, run_text}
+use Rattle.gr_top.specs.Commands.{asked, is_replay, is_run, setup_of, text_of}
+use Rattle.gr_top.specs.Promises.{status_of, IsRunOf, IsWorldOf}
 use Rattle.gr_top.proofs.Once.{once}
 use Rattle.gr_top.proofs.Exact.{some_options}
 
-pub record Ended (bytes : List ℕ) (world : Option WorldEnd) (o : Options) (d : Due) : Type 0 where
+pub record Well (bytes : List ℕ) (found : Option WorldEnd) (o : Options) (d : Due) : Type 0 where
   pub program : Program
-  pub reads : ReadsAs bytes (accepted program)
-  pub end : WorldEnd
-  pub kept : world ≡ Some end
-  pub legal : legal program o.cores o.steps end.history ≡ true
-  pub complete : complete program o.cores o.steps end.history ≡ true
-  pub text : d.text ≡ prints end.history ++ told o.history program o.cores o.steps end.history
-
--- The status and the text of an answer, where there is one.
-abbrev status_in : ℕ → Option Due → ℕ
-status_in other None = other
-status_in other (Some d) = status_of d.refusal
-
-abbrev text_in : Option Due → List ℕ
-text_in None = []
-text_in (Some d) = d.text
+  pub reads : ReadsAs (text_of o bytes) (accepted program)
+  pub world : WorldEnd
+  pub kept : found ≡ Some world
+  pub run : IsMachineRun (setup_of o) program world
+  pub state : State
+  pub last : final program o.cores o.steps world.history ≡ Some state
+  pub passed : state.passed ≡ true
+  pub text : d.text ≡ run_text o program world (complete state.objects)
 
 same_options : (words : List (String Global)) (o q : Options) → asked words ≡ Some o → asked words ≡ Some q → o ≡ q
 same_options words o q x y = let k : Some o ≡ Some q = sym x ∙ y in cc
 
-trap_ended : (o : Options) (p : Program) (bytes : List ℕ) (w : WorldEnd) (t : Option TrapAt) (more : List ℕ) (d : Due)
-    → option_map (λ due. followed due more) (due_trapped w.history t) ≡ Some d → status_of d.refusal ≡ 0 → Ended bytes (Some w) o d
-trap_ended o p bytes w None more d e s = cc
-trap_ended o p bytes w (Some t) more d e s = absurd (omega (arith, s, ap (status_in 0) e))
+-- Where a run ended complete, these are the objects of its last state, in which the root is passed.
+record IsFinal (end : Option State) (how : Ended) : Type 0 where
+  state : State
+  last : end ≡ Some state
+  passed : state.passed ≡ true
+  objects : how ≡ complete state.objects
 
-history_ended : (o : Options) (bytes : List ℕ) (p : Program) (w : WorldEnd) (b : Bool) → ReadsAs bytes (accepted p) → legal p o.cores o.steps w.history ≡ true
-    → complete p o.cores o.steps w.history ≡ b
-    → (d : Due) → option_map (λ due. followed due (told o.history p o.cores o.steps w.history)) (due_of_run b w.history) ≡ Some d → status_of d.refusal ≡ 0 → Ended bytes (Some w) o d
-history_ended o bytes p w true reads legal x d e zero_status =
-    record { program = p; reads = reads; end = w; kept = refl; legal = legal; complete = x; text = sym (ap text_in e) }
-history_ended o bytes p w false reads legal x d e s = trap_ended o p bytes w (first_trap w.history) (told o.history p o.cores o.steps w.history) d e s
+open_status : (o : Options) (p : Program) (world : WorldEnd) (trap : Option TrapAt) (spent : Option LimitAt) → status_of (due_ended o p world (ended_open trap spent)).refusal ≡ 0 → ⊥
+open_status o p world (Some t) spent e = omega (arith, e)
+open_status o p world None (Some at) e = omega (arith, e)
+open_status o p world None None e = omega (arith, e)
 
-run_ended : (words : List (String Global)) (o : Options) (bytes : List ℕ) (p : Program) (world : Option WorldEnd) (d : Due) → asked words ≡ Some o → ReadsAs bytes (accepted p)
-    → IsWorldOf words bytes world → due_run o p world ≡ Some d → status_of d.refusal ≡ 0 → Ended bytes world o d
-run_ended words o bytes p None d some reads h e s = cc
-run_ended words o bytes p (Some w) d some reads h e s =
-    let same : h.program ≡ p = let q : accepted h.program ≡ accepted p = once bytes (accepted h.program) (accepted p) h.reads reads in cc in
-    let run : IsRunOf o p w = subst (λ (x : Program). IsRunOf o x w) same (subst (λ (x : Options). IsRunOf x h.program w) (same_options words h.options o h.asked some) h.run) in
-    history_ended o bytes p w (complete p o.cores o.steps w.history) reads run.legal refl d e s
+passed_final : (o : Options) (p : Program) (world : WorldEnd) (trap : Option TrapAt) (spent : Option LimitAt) (last : Option State) (S : State) (b : Bool) → last ≡ Some S → S.passed ≡ b
+    → status_of (due_ended o p world (ended_at last (ended_open trap spent))).refusal ≡ 0 → IsFinal last (ended_at last (ended_open trap spent))
+passed_final o p world trap spent last S true e k zero_status = record { state = S; last = e; passed = k; objects = rw e (rw k refl) }
+passed_final o p world trap spent last S false e k zero_status =
+    let other : ended_at last (ended_open trap spent) ≡ ended_open trap spent = rw e (rw k refl) in
+    absurd (open_status o p world trap spent (ap (λ (how : Ended). status_of (due_ended o p world how).refusal) (sym other) ∙ zero_status))
 
-built_ended : (words : List (String Global)) (o : Options) (bytes : List ℕ) (p : Program) (world : Option WorldEnd) (d : Due) (b : Bool) → asked words ≡ Some o → ReadsAs bytes (accepted p)
-    → IsWorldOf words bytes world → (if b then due_run o p world else Some (due_refused not_built)) ≡ Some d → status_of d.refusal ≡ 0 → Ended bytes world o d
-built_ended words o bytes p world d true some reads h e s = run_ended words o bytes p world d some reads h e s
-built_ended words o bytes p world d false some reads h e s = absurd (omega (arith, s, ap (status_in 0) e))
+at_final : (o : Options) (p : Program) (world : WorldEnd) (trap : Option TrapAt) (spent : Option LimitAt) (last : Option State)
+    → status_of (due_ended o p world (ended_at last (ended_open trap spent))).refusal ≡ 0 → IsFinal last (ended_at last (ended_open trap spent))
+at_final o p world trap spent None e = absurd (open_status o p world trap spent e)
+at_final o p world trap spent (Some S) e = passed_final o p world trap spent (Some S) S S.passed refl refl e
 
-read_ended : (words : List (String Global)) (o : Options) (bytes : List ℕ) (reading : Reading) (world : Option WorldEnd) (d : Due) → asked words ≡ Some o → o.command ≡ Run → ReadsAs bytes reading
-    → IsWorldOf words bytes world → due_read o reading world ≡ Some d → status_of d.refusal ≡ 0 → Ended bytes world o d
-read_ended words o bytes (refused f) world d some c reads h e s = absurd (omega (arith, s, ap (status_in 0) e))
-read_ended words o bytes (accepted p) world d some c reads h e s =
-    built_ended words o bytes p world d (is_run o p) some reads h (sym (ap (λ (x : Command). due_accepted x o p world) c) ∙ e) s
+ended_final : (o : Options) (p : Program) (world : WorldEnd) → status_of (due_ended o p world (ended_as (setup_of o) p world)).refusal ≡ 0
+    → IsFinal (final p o.cores o.steps world.history) (ended_as (setup_of o) p world)
+unfolding ended_as
+ended_final o p world e = at_final o p world (first_trap world.history) (first_limit o.events world.cores) (final p o.cores o.steps world.history) e
 
-pub headline : (words : List (String Global)) (bytes : List ℕ) (world : Option WorldEnd) (d : Due) (o : Options) → IsDue words bytes world d → asked words ≡ Some o → o.command ≡ Run
-    → IsWorldOf words bytes world → is_some world ≡ d.ran → status_of d.refusal ≡ 0 → Ended bytes world o d
-headline words bytes world _ o (IsDue.usage none) some c h ran s = absurd (some_options words o some none)
-headline words bytes world _ o (IsDue.bench q also none) some c h ran s = absurd (omega (arith, s))
-headline words bytes world _ o (IsDue.too_long q also reads more) some c h ran s = absurd (omega (arith, s))
-headline words bytes world _ o (IsDue.read {reading} {due = d} q also on few reads e) some c h ran s =
-    read_ended words o bytes reading world d some c reads h (ap (λ (x : Options). due_read x reading world) (same_options words o q some also) ∙ e) s
-headline words bytes world _ o (IsDue.replayed {r = found} q also on few reads) some c h ran s =
-    let k : is_replay Run ≡ true = ap is_replay (sym c) ∙ ap (λ (x : Options). is_replay x.command) (same_options words o q some also) ∙ on in cc
+run_well : (words : List (String Global)) (o : Options) (bytes : List ℕ) (p : Program) (kept : Option WorldEnd) → asked words ≡ Some o → ReadsAs (text_of o bytes) (accepted p)
+    → IsWorldOf words bytes kept → status_of (due_run o p kept).refusal ≡ 0 → Well bytes kept o (due_run o p kept)
+run_well words o bytes p None some reads h e = absurd (omega (arith, e))
+run_well words o bytes p (Some w) some reads h e =
+    let same_o : h.options ≡ o = same_options words h.options o h.asked some in
+    let q : accepted h.program ≡ accepted p =
+    once (text_of o bytes) (accepted h.program) (accepted p) (subst (λ (x : Options). ReadsAs (text_of x bytes) (accepted h.program)) same_o h.reads) reads in
+    let same : h.program ≡ p = cc in
+    let run : IsRunOf o p w = subst (λ (x : Program). IsRunOf o x w) same (subst (λ (x : Options). IsRunOf x h.program w) same_o h.run) in
+    let last = ended_final o p w e in
+    record {
+      program = p;
+      reads = reads;
+      world = w;
+      kept = refl;
+      run = run.machine;
+      state = last.state;
+      last = last.last;
+      passed = last.passed;
+      text = ap (λ (how : Ended). (due_ended o p w how).text) last.objects;
+    }
+
+run_is : (c : Command) (o : Options) (p : Program) (kept : Option WorldEnd) → is_run c ≡ true → due_run o p kept ≡ due_accepted c o p kept
+run_is Run o p kept r = refl
+run_is Bench o p kept r = refl
+run_is Check o p kept r = cc
+run_is Replay o p kept r = cc
+
+accepted_well : (words : List (String Global)) (o : Options) (bytes : List ℕ) (p : Program) (kept : Option WorldEnd) (c : Command) → is_run c ≡ true → asked words ≡ Some o
+    → ReadsAs (text_of o bytes) (accepted p) → IsWorldOf words bytes kept → status_of (due_accepted c o p kept).refusal ≡ 0 → Well bytes kept o (due_accepted c o p kept)
+accepted_well words o bytes p kept c r some reads h e =
+    subst (Well bytes kept o) (run_is c o p kept r) (run_well words o bytes p kept some reads h (ap (λ (d : Due). status_of d.refusal) (run_is c o p kept r) ∙ e))
+
+read_well : (words : List (String Global)) (o : Options) (bytes : List ℕ) (reading : Reading) (kept : Option WorldEnd) → asked words ≡ Some o → is_run o.command ≡ true
+    → ReadsAs (text_of o bytes) reading → IsWorldOf words bytes kept → status_of (due_read o reading kept).refusal ≡ 0 → Well bytes kept o (due_read o reading kept)
+read_well words o bytes (refused f) kept some c reads h e = absurd (omega (arith, e))
+read_well words o bytes (accepted p) kept some c reads h e = accepted_well words o bytes p kept o.command c some reads h e
+
+no_replay : (c : Command) → is_run c ≡ true → is_replay c ≡ true → ⊥
+no_replay Run r e = cc
+no_replay Bench r e = cc
+no_replay Check r e = cc
+no_replay Replay r e = cc
+
+pub headline : (words : List (String Global)) (bytes : List ℕ) (kept : Option WorldEnd) (d : Due) (o : Options) → IsDue words bytes kept d → asked words ≡ Some o → is_run o.command ≡ true
+    → IsWorldOf words bytes kept → status_of d.refusal ≡ 0 → Well bytes kept o d
+headline words bytes kept _ o (IsDue.usage none) some c h e = absurd (some_options words o some none)
+headline words bytes kept _ o (IsDue.too_long q also reads more) some c h e = absurd (omega (arith, e))
+headline words bytes kept _ o (IsDue.read {reading} q also on fits reads) some c h e =
+    subst (λ (x : Options). Well bytes kept o (due_read x reading kept)) (same_options words o q some also)
+    (read_well words o bytes reading kept some c (subst (λ (x : Options). ReadsAs (text_of x bytes) reading) (sym (same_options words o q some also)) reads) h
+    (ap (λ (x : Options). status_of (due_read x reading kept).refusal) (same_options words o q some also) ∙ e))
+headline words bytes kept _ o (IsDue.replayed {r = found} q also on few reads) some c h e =
+    absurd (no_replay o.command c (ap (λ (x : Options). is_replay x.command) (same_options words o q some also) ∙ on))

@@ -1,14 +1,11 @@
-pub mod Firsts
-pub mod Tasks
-pub mod Alone
 pub mod TextOnce
 pub mod Once
 pub mod Dues
+pub mod Endings
 pub mod Told
 pub mod Exact
 pub mod Headline
 pub mod Calls
-pub mod Runs
 pub mod Namings
 pub mod Retold
 pub mod Counted

@@ -24,8 +24,8 @@ use Rattle.gr_expressions.specs.Tok.{Tok, tok_of, tok_of_kind, tok_of_word, toks
 use Rattle.gr_parse.specs.Grammar.{IsItem, IsProgramOf}
 use Rattle.gr_parse.proofs.Whole.{Cut, cut}
 use Rattle.gr_hist.specs.Naming.{IsNamed}
-use Rattle.gr_top.specs.Due.{Reading, accepted}
 use Rattle.gr_top.specs.Readings.{ReadsAs}
+use Rattle.gr_top.specs.Due.{Reading, accepted}
 
 -- ---- tokens
 

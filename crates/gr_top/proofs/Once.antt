@@ -15,8 +15,8 @@ use Rattle.gr_text.proofs.Well.{well}
 use Rattle.gr_parse.specs.declared.fault.ParseError.TheVariants as parse_errors
 use Rattle.gr_parse.specs.Grammar.{IsProgramOf, Says}
 use Rattle.gr_checker.proofs.Firsts.{first-unique, first-some}
-use Rattle.gr_top.specs.Due.{Reading, accepted, refused}
 use Rattle.gr_top.specs.Readings.{ReadsAs}
+use Rattle.gr_top.specs.Due.{Reading, accepted, refused}
 use Rattle.gr_top.proofs.TextOnce.{text_once}
 use Rattle.gr_parse.proofs.Unique.{one_program, one_fault, no_program}
 

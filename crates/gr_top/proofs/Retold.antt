@@ -19,10 +19,11 @@ use Rattle.gr_replay.specs.Judged as verdict
 use Rattle.gr_replay.specs.Laws.{WrittenNames}
 use Rattle.gr_replay.proofs.RoundTrips.{history_back}
 use Rattle.gr_replay.proofs.Uniques.{objects_once, tasks_once}
-use Rattle.gr_top.specs.Commands.{asked}
+use Rattle.gr_top.specs.Readings.{ReadsAs, ReplaysAs}
 use Rattle.gr_top.specs.Due.{accepted, judged}
-use Rattle.gr_top.specs.Readings.{ReadsAs, ReplaysAs, IsRunOf, IsRunAsked, IsWorldOf, IsRetold}
-use Rattle.gr_top.specs.declared.answer.WorldEnd.{WorldEnd}
+use Rattle.gr_top.specs.Commands.{asked, text_of}
+use Rattle.gr_top.specs.Promises.{IsRunOf, IsRunAsked, IsWorldOf, IsRetold}
+use Rattle.gr_engine.specs.declared.ending.WorldEnd.{WorldEnd}
 use Rattle.gr_top.proofs.Once.{once}
 use Rattle.gr_top.proofs.Namings.{accepted_named, accepted_is, no_heap}
 
@@ -41,20 +42,24 @@ legal_judged p N L h taken names is_legal =
 header_of : (o : Options) → IsWithinLimits o → IsHeader o.cores o.steps
 header_of o within = record { some_core = within.few_cores.0; most_cores = within.few_cores.1; some_step = within.few_steps.0; most_steps = within.few_steps.1 }
 
-run_retold : (o : Options) (p : Program) (bytes : List ℕ) (world : WorldEnd) → ReadsAs bytes (accepted p) → o.history ≡ true → IsWithinLimits o → IsRunOf o p world
-    → ReplaysAs bytes (history_text p o.cores o.steps world.history) (judged (verdict.legal (complete p o.cores o.steps world.history)))
-run_retold o p bytes world reads asks within run =
-    ReplaysAs.of_history {h = named_history p o.cores o.steps world.history} reads (run.told asks (header_of o within)) (legal_judged p o.cores o.steps world.history (accepted_is bytes p reads) (accepted_named bytes p reads) run.legal)
+run_retold : (o : Options) (p : Program) (text : List ℕ) (world : WorldEnd) → ReadsAs text (accepted p) → o.history ≡ true → IsWithinLimits o → IsRunOf o p world
+    → ReplaysAs text (history_text p o.cores o.steps world.history) (judged (verdict.legal (complete p o.cores o.steps world.history)))
+run_retold o p text world reads asks within run =
+    ReplaysAs.of_history {h = named_history p o.cores o.steps world.history} reads (run.told asks (header_of o within)) (legal_judged p o.cores o.steps world.history (accepted_is text p reads) (accepted_named text p reads) run.legal)
 
 same_options : (words : List (String Global)) (o q : Options) → asked words ≡ Some o → asked words ≡ Some q → o ≡ q
 same_options words o q x y = let k : Some o ≡ Some q = sym x ∙ y in cc
 
-pub asked_retold : (words : List (String Global)) (bytes : List ℕ) (world : WorldEnd) → IsRunAsked words bytes world → (o : Options) (p : Program) → asked words ≡ Some o → ReadsAs bytes (accepted p) → o.history ≡ true
-    → ReplaysAs bytes (history_text p o.cores o.steps world.history) (judged (verdict.legal (complete p o.cores o.steps world.history)))
+pub asked_retold : (words : List (String Global)) (bytes : List ℕ) (world : WorldEnd) → IsRunAsked words bytes world → (o : Options) (p : Program) → asked words ≡ Some o
+    → ReadsAs (text_of o bytes) (accepted p) → o.history ≡ true
+    → ReplaysAs (text_of o bytes) (history_text p o.cores o.steps world.history) (judged (verdict.legal (complete p o.cores o.steps world.history)))
 asked_retold words bytes world h o p some reads asks =
-    let same : h.program ≡ p = let q : accepted h.program ≡ accepted p = once bytes (accepted h.program) (accepted p) h.reads reads in cc in
-    let run : IsRunOf o p world = subst (λ (x : Program). IsRunOf o x world) same (subst (λ (x : Options). IsRunOf x h.program world) (same_options words h.options o h.asked some) h.run) in
-    run_retold o p bytes world reads asks (options_are_within _ o some) run
+    let same_o : h.options ≡ o = same_options words h.options o h.asked some in
+    let q : accepted h.program ≡ accepted p =
+    once (text_of o bytes) (accepted h.program) (accepted p) (subst (λ (x : Options). ReadsAs (text_of x bytes) (accepted h.program)) same_o h.reads) reads in
+    let same : h.program ≡ p = cc in
+    let run : IsRunOf o p world = subst (λ (x : Program). IsRunOf o x world) same (subst (λ (x : Options). IsRunOf x h.program world) same_o h.run) in
+    run_retold o p (text_of o bytes) world reads asks (options_are_within _ o some) run
 
 -- The same of a call: of the world that it keeps, where its source tells what it held.
 pub world_retold : (words : List (String Global)) (held : Option (List ℕ)) (world made : Option WorldEnd) → world ≡ made → IfSome held (λ bytes. IsWorldOf words bytes made)

@@ -2,20 +2,8 @@
 use Rattle.std.specs.Prelude.{◌≡◌, ℕ, Result, Ok, Err}
 use Rattle.gr_io.specs.Faults.{next_count}
 use Rattle.gr_top.specs.declared.answer.Answer.{Answer}
-use Rattle.gr_top.specs.declared.answer.Refusal.{Refusal}
-use Rattle.gr_top.specs.declared.answer.Refusal.TheVariants as refusal
 use Rattle.gr_top.specs.declared.call.Stop.{Stop}
 use Rattle.gr_top.specs.declared.call.Stop.TheVariants as stop
-
--- The source had one fault where the refusal says so, and else none.
-abbrev pub CountsReads : Refusal → ℕ → ℕ → Type 0
-CountsReads refusal.ReadFault before now = now ≡ next_count before
-CountsReads _ before now = now ≡ before
-
--- The sink had one fault where the refusal says so, and else none.
-abbrev pub CountsWrites : Refusal → ℕ → ℕ → Type 0
-CountsWrites (refusal.WriteFault written) before now = now ≡ next_count before
-CountsWrites _ before now = now ≡ before
 
 -- The same of the source where there is no answer to write.
 abbrev pub CountsStop : ℕ → ℕ → Result Answer Stop → Type 0

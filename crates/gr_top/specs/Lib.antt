@@ -1,11 +1,8 @@
 pub mod Commands
-pub mod Built
 pub mod Texts
 pub mod Due
 pub mod Readings
 pub mod Promises
-pub mod Counts
 -- For proofs and private functions.
-pub mod AloneWords
+pub mod Counts
 pub mod AnswerView
-pub mod RunWords

@@ -1,13 +1,8 @@
 -- The texts that are written, each a line or more that ends with a newline.
-use Rattle.std.specs.Prelude.{ℕ, Bool, true, false, List, [], ◌∷◌, ◌++◌, Option, Some, None, codes}
+use Rattle.std.specs.Prelude.{ℕ, Bool, true, false, List, ◌++◌, codes}
 use Rattle.std.specs.Fmt.{decimal}
 use Rattle.gr_syntax.specs.declared.refusal.Fault.{Fault}
-use Rattle.gr_lang.specs.declared.action.Entry.{Entry}
-use Rattle.gr_lang.specs.declared.action.Entry.TheVariants as e
-use Rattle.gr_lang.specs.declared.action.Op.TheVariants as o
 use Rattle.gr_syntax.specs.Faults.{words_of}
-use Rattle.gr_lang.specs.Traps.{trap_word}
-use Rattle.gr_top.specs.declared.texts.TrapAt.{TrapAt}
 
 abbrev pub usage_text : List ℕ
 usage_text = codes "usage: grappa run|check|replay|bench [--cores N] [--block N] [--limit N] [--steps N] [--slice N] [--events N] [--history] [--counts] [--kind WORD] [--size N] [--seed N]\n"
@@ -28,37 +23,12 @@ not_legal_text entry = codes "not legal at entry " ++ (decimal entry ++ codes "\
 abbrev pub bad_line_text : ℕ → List ℕ
 bad_line_text line = codes "bad history line " ++ (decimal line ++ codes "\n")
 
+abbrev pub stalled_text : List ℕ
+stalled_text = codes "stalled\n"
+
+abbrev pub uncertified_text : List ℕ
+uncertified_text = codes "uncertified\n"
+
 -- Where a text is refused, and why.
 abbrev pub refused_text : Fault → List ℕ
 refused_text f = codes "refused line " ++ (decimal f.at.line ++ (codes " column " ++ (decimal f.at.column ++ (codes ": " ++ (words_of f.kind ++ codes "\n")))))
-
--- The word that an entry prints.
-abbrev pub printed_by : Entry → Option ℕ
-printed_by (e.Call task (o.Print word) reply) = Some word
-printed_by _ = None
-
--- A printed word in decimal, on a line of its own.
-abbrev pub line_of : Option ℕ → List ℕ
-line_of None = []
-line_of (Some word) = decimal word ++ codes "\n"
-
--- The prints of a history, in its order.
-unfoldable pub prints : List Entry → List ℕ
-prints [] = []
-prints (x ∷ xs) = line_of (printed_by x) ++ prints xs
-
-abbrev pub trap_of : Entry → Option TrapAt
-trap_of (e.Trap task kind) = Some (record { kind = kind; task = task })
-trap_of _ = None
-
-abbrev pub first_of : Option TrapAt → Option TrapAt → Option TrapAt
-first_of (Some t) rest = Some t
-first_of None rest = rest
-
--- The first trap of a history.
-unfoldable pub first_trap : List Entry → Option TrapAt
-first_trap [] = None
-first_trap (x ∷ xs) = first_of (trap_of x) (first_trap xs)
-
-abbrev pub trap_text : TrapAt → List ℕ
-trap_text t = codes "trap " ++ (trap_word t.kind ++ (codes " task " ++ (decimal t.task.core ++ (codes "." ++ (decimal t.task.number ++ codes "\n")))))

@@ -1,5 +1,6 @@
 //! How a call ends.
-use gr_lang::{History, TaskId, TrapKind};
+use gr_engine::WorldEnd;
+use gr_lang::{TaskId, TrapKind};
 use gr_syntax::Kind;
 
 /// Why a call didn't end as it might have.
@@ -7,7 +8,7 @@ use gr_syntax::Kind;
 pub enum Refusal {
     /// It did: the program ran to its end, or was accepted.
     Nothing,
-    /// The text is no program, isn't accepted, or isn't run yet. Line and column count from 1.
+    /// The text is no program, or isn't accepted. Line and column count from 1.
     Refused { kind: Kind, line: u64, column: u64 },
     /// The words are no command.
     Usage,
@@ -19,25 +20,25 @@ pub enum Refusal {
     WriteFault { written: u64 },
     /// Memory was wanting.
     Memory,
+    /// The clock of a core came to the limit of events before the run ended: the first such core.
+    EventLimit { core: u64, clock: u64 },
     /// The source held more bytes than the command reads.
     TooLong,
     /// The entry with this number, counted from 1, is the first of a replayed history that is no step.
     NotLegal { entry: u64 },
     /// A replayed history text leaves its grammar in this line, counted from 1.
     BadLine { line: u64 },
-}
-
-/// What is left of a run.
-#[derive(Drop)]
-pub struct WorldEnd {
-    /// All that the tasks did, in one order.
-    pub history: History,
+    /// No core could go on, and the run hadn't ended. Nobody has seen this: it would be a defect of the runtime.
+    Stalled,
+    /// The history of a run is none of the plain memory, or its cores say something else of its end. Nobody has seen
+    /// this: it would be a defect of the runtime. Nothing of the run is told.
+    Uncertified,
 }
 
 /// The end of a call.
 #[derive(Drop)]
 pub struct RunEnd {
-    /// The exit status: 0 to 6 or 8 to 10, one for each kind of refusal.
+    /// The exit status: 0 to 12, one for each kind of refusal.
     pub status: u8,
     pub refusal: Refusal,
     /// What is left of the run, where one was made.

@@ -1,14 +1,17 @@
 //! The words of the command line.
-ghost use Rattle.std.specs.Prelude.{◌≡◌, IfOk};
-ghost use Rattle.gr_top.specs.Commands.{asked as asked_of, is_read as reads_source, is_replay as replays, limit_of};
+ghost use Rattle.std.specs.Prelude.{◌≡◌, IfOk, IfSome};
+ghost use Rattle.gr_cli.specs.Options.{IsWithinLimits};
+ghost use Rattle.gr_top.specs.Commands.{asked as asked_of, is_read as reads_source, is_replay as replays, limit_of, setup_of};
 
 use gr_cli::{Command, Options, OptionsError, options};
 use gr_io::{MAX_PROGRAM, MAX_REPLAY};
+use gr_machine::Setup;
 use std::alloc::{AllocError, Global};
 
 /// The options of the words; none where they are no command line.
 pub(crate) fn asked(alloc: Global, words: &[String]) -> Result<Option<Options>, AllocError>
-    ensures { IfOk result (λ options. options ≡ asked_of words.now) }
+    ensures options { IfOk result (λ options. options ≡ asked_of words.now) }
+    ensures limits { IfOk result (λ options. IfSome options IsWithinLimits) }
 {
     let read = options(alloc, words);
     match read {
@@ -45,5 +48,18 @@ pub(crate) fn source_limit(command: Command) -> u64
     match command {
         Command::Replay => MAX_REPLAY,
         Command::Run | Command::Check | Command::Bench => MAX_PROGRAM,
+    }
+}
+
+/// The numbers of a run.
+pub(crate) fn setup(options: &Options) -> Setup
+    ensures { result ≡ setup_of options.now }
+{
+    Setup {
+        cores: options.cores,
+        block: options.block,
+        limit: options.limit,
+        steps: options.steps,
+        events: options.events,
     }
 }

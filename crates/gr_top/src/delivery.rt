@@ -2,8 +2,8 @@
 ghost use Rattle.std.specs.Prelude.{◌≡◌, ◌≢◌, ℕ, is_some};
 ghost use Rattle.gr_io.specs.Faults.{Rose};
 ghost use Rattle.gr_top.specs.AnswerView.{made};
-ghost use Rattle.gr_top.specs.Counts.{CountsWrites};
-ghost use Rattle.gr_top.specs.Due.{status_of, Came, IsWritten};
+ghost use Rattle.gr_top.specs.Due.{Came, IsWritten};
+ghost use Rattle.gr_top.specs.Promises.{CountsWrites, status_of};
 
 use crate::answer::{Answer, Refusal, RunEnd};
 use gr_io::{Sink, write_all};
@@ -20,9 +20,12 @@ pub(crate) fn status(refusal: Refusal) -> u8
         Refusal::ReadFault => 4,
         Refusal::WriteFault { .. } => 5,
         Refusal::Memory => 6,
+        Refusal::EventLimit { .. } => 7,
         Refusal::TooLong => 8,
         Refusal::NotLegal { .. } => 9,
         Refusal::BadLine { .. } => 10,
+        Refusal::Stalled => 11,
+        Refusal::Uncertified => 12,
     }
 }
 

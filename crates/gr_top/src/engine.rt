@@ -1,31 +1,33 @@
 //! From options and a text to an answer that is whole before a byte is written.
-ghost use Rattle.std.specs.Prelude.{◌≡◌, ◌++◌, ◌⊎◌, true, IfOk, IfSome, OnOk, None, Some, is_some};
-ghost use Rattle.gr_top.specs.Texts.{first_trap};
+ghost use Rattle.std.specs.Prelude.{◌≡◌, ◌≢◌, ◌++◌, true, IfOk, IfSome, OnOk, None, Some, string_bytes};
 ghost use Rattle.gr_syntax.specs.declared.syntax.Program.{Program};
 ghost use Rattle.gr_lang.specs.Histories.{legal};
+ghost use Rattle.gr_cli.specs.Options.{IsWithinLimits};
+ghost use Rattle.gr_engine.specs.Ends.{IsEnding, ended_as};
+ghost use Rattle.gr_engine.specs.Runs.{IsUncertified};
 ghost use Rattle.gr_hist.specs.Naming.{IsNamed, ReadsBack, history_text};
-ghost use Rattle.gr_top.specs.Commands.{is_on_text, is_run as is_run_today};
-ghost use Rattle.gr_top.specs.Due.{Reading, accepted as accepted_as, not_built as not_built_fault, due_read, due_accepted, due_run, due_of_run, due_refused, followed, told, IsWritten};
-ghost use Rattle.gr_top.specs.Readings.{ReadsAs, IsRunOf};
-ghost use Rattle.gr_top.specs.AnswerView.{made};
+ghost use Rattle.gr_top.specs.Readings.{ReadsAs};
+ghost use Rattle.gr_top.specs.Due.{Reading, accepted as accepted_as, counted as counted_of, due_accepted, due_ended, due_read, due_refused, due_run, told as told_of, IsWritten};
+ghost use Rattle.gr_top.specs.Commands.{setup_of};
+ghost use Rattle.gr_top.specs.Promises.{IsRunOf};
+ghost use Rattle.gr_top.specs.AnswerView.{lines_at, made, refusal_at, text_at};
 
-use crate::answer::{Answer, Refusal, WorldEnd};
-use crate::built::is_built;
+use crate::answer::{Answer, Refusal};
+use crate::command::setup;
 use crate::reading::{TextRead, read_text};
-use crate::straight::{Ran, run};
-use crate::texts::{first_trap, prints, refused_text, write_trap};
+use crate::texts::{STALLED, UNCERTIFIED, refused_text};
 use gr_accept::Accepted;
-use gr_cli::{Command, EVENTS, Options};
+use gr_cli::{Command, Options};
+use gr_engine::{Ending, Ran, run_program};
 use gr_hist::write;
 use gr_lang::History;
-use gr_syntax::{Fault, Kind, Place};
+use gr_machine::CoreEnds;
+use gr_reduce::Reducers;
+use gr_report::{counts_text, prints, show_text, write_limit, write_trap};
+use gr_round::Gate;
+use gr_syntax::Fault;
 use std::alloc::{AllocError, Global};
-
-/// What is said where a command or an accepted program isn't run today.
-const NOT_BUILT: Fault = Fault {
-    kind: Kind::NotBuilt,
-    at: Place { line: 1, column: 1 },
-};
+use std::thread::Threads;
 
 /// An answer that tells no more than this text.
 pub(crate) fn said(alloc: Global, refusal: Refusal, text: &str) -> Result<Answer, AllocError>
@@ -57,140 +59,206 @@ pub(crate) fn refused(alloc: Global, fault: Fault) -> Result<Answer, AllocError>
     })
 }
 
-/// The answer to what isn't run today.
-pub(crate) fn not_built(alloc: Global) -> Result<Answer, AllocError>
-    ensures due { IfOk result (λ a. made a ≡ due_refused not_built_fault) }
-    ensures world { IfOk result (λ a. a.world ≡ None) }
-    ensures written { IfOk result (λ a. IsWritten a.refusal) }
-{
-    let answer = refused(alloc, NOT_BUILT)?;
-    Ok(answer)
-}
-
-/// How a run ended, and its prints, with the line of its first trap where it isn't complete.
-fn concluded(
+/// The history text of a run, where the options ask for it.
+fn told(
     alloc: Global,
-    history: &History,
-    is_complete: bool,
-) -> Result<(Refusal, Vec<u8>), AllocError>
-    requires { (is_complete ≡ true) ⊎ (is_some (first_trap history.now) ≡ true) }
-    ensures due { IfOk result (λ r. due_of_run is_complete history.now
-        ≡ Some (record { refusal = r.0; text = r.1.items; ran = true })) }
-    ensures written { IfOk result (λ r. IsWritten r.0) }
-{
-    let mut text = prints(alloc, history.as_slice())?;
-    if is_complete {
-        return Ok((Refusal::Nothing, text.into_bytes()));
-    }
-    let trap = first_trap(history.as_slice());
-    match trap {
-        None => unreachable!(),
-        Some(trap) => {
-            write_trap(&mut text, trap)?;
-            let refusal = Refusal::Trap {
-                kind: trap.kind,
-                task: trap.task,
-            };
-            Ok((refusal, text.into_bytes()))
-        }
-    }
-}
-
-/// Puts the history text behind what is to be written, where the options ask for it.
-fn add_history(
-    alloc: Global,
-    text: &mut Vec<u8>,
-    options: Options,
+    options: &Options,
     program: &Accepted,
     history: &History,
-) -> Result<(), AllocError>
+) -> Result<Vec<u8>, AllocError>
     requires { IsNamed program.now }
-    ensures text { OnOk result (text.new.items
-        ≡ text.old.items ++ told options.history program.now options.cores options.steps history.now) }
-    ensures reads { OnOk result (options.history ≡ true
-        → legal program.now options.cores options.steps history.now ≡ true
-        → ReadsBack program.now options.cores options.steps history.now (history_text program.now options.cores options.steps history.now)) }
+    ensures text { IfOk result (λ text. text.items
+        ≡ told_of options.now.history program.now options.now.cores options.now.steps history.now) }
+    ensures reads { OnOk result (options.now.history ≡ true
+        → legal program.now options.now.cores options.now.steps history.now ≡ true
+        → ReadsBack program.now options.now.cores options.now.steps history.now
+        (history_text program.now options.now.cores options.now.steps history.now)) }
 {
     if options.history {
-        let lines = write(alloc, program, options.cores, options.steps, history)?;
-        text.extend_from_slice(lines.as_slice())?;
+        let text = write(alloc, program, options.cores, options.steps, history)?;
+        Ok(text)
+    } else {
+        Ok(Vec::new(alloc))
     }
-    Ok(())
 }
 
-/// The answer to a program that is run today.
-fn run_program(alloc: Global, options: Options, program: &Accepted) -> Result<Answer, AllocError>
-    requires today { is_run_today options program.now ≡ true }
-    requires named { IsNamed program.now }
-    ensures due { IfOk result (λ a. due_run options program.now a.world ≡ Some (made a)) }
-    ensures runs { IfOk result (λ a. IfSome a.world (λ world. IsRunOf options program.now world)) }
-    ensures written { IfOk result (λ a. IsWritten a.refusal) }
+/// The counts of all cores, where the options ask for them.
+fn counted(alloc: Global, options: &Options, ends: &CoreEnds) -> Result<Vec<u8>, AllocError>
+    ensures { IfOk result (λ text. text.items ≡ counted_of options.now.counts ends.now) }
 {
-    let ran = run(alloc, program, options.steps)?;
-    let (refusal, mut text) = concluded(alloc, &ran.history, ran.is_complete)?;
-    add_history(alloc, &mut text, options, program, &ran.history)?;
-    let world = WorldEnd {
-        history: ran.history,
-    };
+    if options.counts {
+        let text = counts_text(alloc, ends)?;
+        Ok(text.into_bytes())
+    } else {
+        Ok(Vec::new(alloc))
+    }
+}
+
+/// Adds the lines that tell how a run ended.
+fn add_ending(
+    alloc: Global,
+    text: &mut String,
+    program: &Accepted,
+    ending: &Ending,
+) -> Result<(), AllocError>
+    ensures { OnOk result (string_bytes text.new
+        ≡ string_bytes text.old ++ lines_at program.now ending.now) }
+{
+    match ending {
+        Ending::Complete { contents } => {
+            let shown = show_text(alloc, program, contents)?;
+            text.push_str(shown.as_str())?;
+            Ok(())
+        }
+        Ending::Trapped { trap } => write_trap(text, *trap),
+        Ending::Limited { at } => write_limit(text, *at),
+        Ending::Stalled => Ok(()),
+    }
+}
+
+/// Why a run ended as it did.
+fn refusal(ending: &Ending) -> Refusal
+    ensures { result ≡ refusal_at ending.now }
+{
+    match ending {
+        Ending::Complete { .. } => Refusal::Nothing,
+        Ending::Trapped { trap } => Refusal::Trap {
+            kind: trap.kind,
+            task: trap.task,
+        },
+        Ending::Limited { at } => Refusal::EventLimit {
+            core: at.core,
+            clock: at.clock,
+        },
+        Ending::Stalled => Refusal::Stalled,
+    }
+}
+
+/// The text of a run: its prints, the lines that tell how it ended, and what else the options ask for.
+fn text_of(
+    alloc: Global,
+    program: &Accepted,
+    history: &History,
+    ending: &Ending,
+    more: &[u8],
+) -> Result<Vec<u8>, AllocError>
+    ensures { IfOk result (λ text. text.items ≡ text_at program.now history.now ending.now more.now) }
+{
+    if let Ending::Stalled = ending {
+        return Vec::from_slice(alloc, STALLED.as_bytes());
+    }
+    let mut text = prints(alloc, history.as_slice())?;
+    add_ending(alloc, &mut text, program, ending)?;
+    let mut text = text.into_bytes();
+    text.extend_from_slice(more)?;
+    Ok(text)
+}
+
+/// The answer to a run that is certified.
+fn ran(alloc: Global, options: &Options, program: &Accepted, ran: Ran) -> Result<Answer, AllocError>
+    requires named { IsNamed program.now }
+    requires ends { IsEnding ran.ending (ended_as (setup_of options.now) program.now ran.world) }
+    ensures due { IfOk result (λ a. made a ≡ due_ended options.now program.now ran.world
+        (ended_as (setup_of options.now) program.now ran.world)) }
+    ensures world { IfOk result (λ a. a.world ≡ Some ran.world) }
+    ensures told { OnOk result (options.now.history ≡ true
+        → legal program.now options.now.cores options.now.steps ran.world.history ≡ true
+        → ReadsBack program.now options.now.cores options.now.steps ran.world.history
+        (history_text program.now options.now.cores options.now.steps ran.world.history)) }
+    ensures written { IfOk result (λ a. IsWritten a.refusal) }
+    ensures certified { IfOk result (λ a. a.refusal ≢ Refusal.Uncertified) }
+{
+    let Ran { world, ending } = ran;
+    let mut more = told(alloc, options, program, &world.history)?;
+    let counts = counted(alloc, options, &world.cores)?;
+    more.extend_from_slice(counts.as_slice())?;
+    let text = text_of(alloc, program, &world.history, &ending, more.as_slice())?;
     Ok(Answer {
-        refusal,
+        refusal: refusal(&ending),
         text,
         world: Some(world),
     })
 }
 
-/// Whether the program is run today with these options.
-fn is_run(options: Options, program: &Accepted) -> bool
-    ensures { result ≡ is_run_today options program.now }
+/// The answer to an accepted program that is to be run.
+fn run_accepted<R: Threads + Sync, G: Gate>(
+    rt: &R,
+    alloc: Global,
+    options: &Options,
+    program: &Accepted,
+    reducers: &Reducers,
+    gate: &G,
+) -> Result<Answer, AllocError>
+    requires limits { IsWithinLimits options.now }
+    requires named { IsNamed program.now }
+    ensures due { IfOk result (λ a. made a ≡ due_run options.now program.now a.world) }
+    ensures runs { IfOk result (λ a. IfSome a.world (IsRunOf options.now program.now)) }
+    ensures uncertified { IfOk result (λ a. a.refusal ≡ Refusal.Uncertified
+        → IsUncertified (setup_of options.now) program.now) }
+    ensures written { IfOk result (λ a. IsWritten a.refusal) }
 {
-    options.cores == 1
-        && options.events == EVENTS.default
-        && !options.counts
-        && is_built(program.program())
+    let found = run_program(
+        rt,
+        alloc,
+        program,
+        setup(options),
+        options.slice,
+        reducers,
+        gate,
+    )?;
+    match found {
+        Some(run) => ran(alloc, options, program, run),
+        None => said(alloc, Refusal::Uncertified, UNCERTIFIED),
+    }
 }
 
 /// The answer to an accepted program.
-fn accepted(alloc: Global, options: Options, program: &Accepted) -> Result<Answer, AllocError>
-    requires { IsNamed program.now }
-    ensures due { IfOk result (λ a. due_accepted options.command options program.now a.world
-        ≡ Some (made a)) }
-    ensures runs { IfOk result (λ a. IfSome a.world (λ world. IsRunOf options program.now world)) }
+fn accepted<R: Threads + Sync, G: Gate>(
+    rt: &R,
+    alloc: Global,
+    options: &Options,
+    program: &Accepted,
+    reducers: &Reducers,
+    gate: &G,
+) -> Result<Answer, AllocError>
+    requires limits { IsWithinLimits options.now }
+    requires named { IsNamed program.now }
+    ensures due { IfOk result (λ a. made a ≡ due_accepted options.now.command options.now program.now a.world) }
+    ensures runs { IfOk result (λ a. IfSome a.world (IsRunOf options.now program.now)) }
+    ensures uncertified { IfOk result (λ a. a.refusal ≡ Refusal.Uncertified
+        → IsUncertified (setup_of options.now) program.now) }
     ensures written { IfOk result (λ a. IsWritten a.refusal) }
 {
     match options.command {
-        Command::Check => {
-            let answer = said(alloc, Refusal::Nothing, "accepted\n")?;
-            Ok(answer)
-        }
-        Command::Run => {
-            let is_run = is_run(options, program);
-            if is_run {
-                let answer = run_program(alloc, options, program)?;
-                Ok(answer)
-            } else {
-                let answer = not_built(alloc)?;
-                Ok(answer)
-            }
-        }
-        Command::Replay | Command::Bench => {
-            let answer = not_built(alloc)?;
-            Ok(answer)
+        Command::Check => said(alloc, Refusal::Nothing, "accepted\n"),
+        Command::Run | Command::Replay | Command::Bench => {
+            run_accepted(rt, alloc, options, program, reducers, gate)
         }
     }
 }
 
 /// The answer to a command on a program text.
-pub(crate) fn run_text(alloc: Global, options: Options, text: &[u8]) -> Result<Answer, AllocError>
+pub(crate) fn run_text<R: Threads + Sync, G: Gate>(
+    rt: &R,
+    alloc: Global,
+    options: &Options,
+    text: &[u8],
+    reducers: &Reducers,
+    gate: &G,
+) -> Result<Answer, AllocError>
+    requires limits { IsWithinLimits options.now }
     ensures due { IfOk result (λ a. (reading : Reading) × ReadsAs text.now reading
-        × (due_read options reading a.world ≡ Some (made a))) }
+        × (made a ≡ due_read options.now reading a.world)) }
     ensures world { IfOk result (λ a. IfSome a.world (λ world. (p : Program)
-        × ReadsAs text.now (accepted_as p) × IsRunOf options p world)) }
+        × ReadsAs text.now (accepted_as p) × IsRunOf options.now p world)) }
+    ensures uncertified { IfOk result (λ a. a.refusal ≡ Refusal.Uncertified
+        → (p : Program) × ReadsAs text.now (accepted_as p) × IsUncertified (setup_of options.now) p) }
     ensures written { IfOk result (λ a. IsWritten a.refusal) }
 {
     let read = read_text(alloc, text)?;
     match read {
         TextRead::Accepted { program } => {
-            let answer = accepted(alloc, options, &program)?;
+            let answer = accepted(rt, alloc, options, &program, reducers, gate)?;
             Ok(answer)
         }
         TextRead::Refused { fault } => {

@@ -2,9 +2,9 @@
 //! contracts.
 ghost use Rattle.std.specs.Prelude.{◌≡◌, ℕ, List, Option, String};
 ghost use Rattle.std.specs.declared.alloc.Global.{Global};
-ghost use Rattle.gr_top.specs.declared.answer.WorldEnd.{WorldEnd};
-ghost use Rattle.gr_top.specs.Due.{Reading, Replayed, Due};
+ghost use Rattle.gr_engine.specs.declared.ending.WorldEnd.{WorldEnd};
 ghost use Rattle.gr_top.specs.Readings.{ReadsAs, ReplaysAs, IsDue};
+ghost use Rattle.gr_top.specs.Due.{Reading, Replayed, Due};
 
 /// A text reads as one accepted program or as one first fault, a replay finds one thing, and so one answer
 /// is due.

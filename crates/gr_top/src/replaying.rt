@@ -2,8 +2,8 @@
 ghost use Rattle.std.specs.Prelude.{◌≡◌, ℕ, List, string_bytes, IfOk, IsErr, None};
 ghost use Rattle.gr_replay.specs.Division.{program_part, history_part};
 ghost use Rattle.gr_replay.specs.Judged.{Verdict, Judged};
-ghost use Rattle.gr_top.specs.Due.{Replayed as Finding, accepted as accepted_as, due_judged, due_replayed, IsWritten};
 ghost use Rattle.gr_top.specs.Readings.{ReadsAs, ReplaysAs};
+ghost use Rattle.gr_top.specs.Due.{Replayed as Finding, accepted as accepted_as, due_judged, due_replayed, IsWritten};
 ghost use Rattle.gr_top.specs.AnswerView.{made};
 
 use crate::answer::{Answer, Refusal};

@@ -8,6 +8,8 @@ ghost use Rattle.std.specs.Process.{exit_status};
 ghost use Rattle.std.specs.Vec.Iter.{into_iter_items};
 
 use gr_io::{StdSink, StdSource};
+use gr_reduce::{Reducer, Reducers};
+use gr_round::NoGate;
 use gr_top::{RunEnd, top};
 use std::alloc::{AllocError, Global};
 use std::env::Args;
@@ -52,5 +54,25 @@ fn main(rt: HostRuntime) -> ExitCode {
     let mut source = StdSource::new(rt.stdin());
     let mut sink = StdSink::new(rt.stdout());
     let words = words(rt.alloc(), env::args(&rt));
-    status(words.map(|words| top(rt.alloc(), words.as_slice(), &mut source, &mut sink)))
+    let reducers = Reducers::new([
+        Reducer::new(0, |one, other| one.wrapping_add(other)),
+        Reducer::new(1, |one, other| one.min(other)),
+        Reducer::new(2, |one, other| one.max(other)),
+        Reducer::new(3, |one, other| one | other),
+        Reducer::new(4, |one, other| one & other),
+        Reducer::new(5, |one, other| one ^ other),
+        Reducer::new(6, |one, _| one),
+        Reducer::new(7, |_, other| other),
+    ]);
+    status(words.map(|words| {
+        top(
+            &rt,
+            rt.alloc(),
+            words.as_slice(),
+            reducers,
+            &mut source,
+            &mut sink,
+            &NoGate,
+        )
+    }))
 }

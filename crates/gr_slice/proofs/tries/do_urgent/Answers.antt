@@ -1,4 +1,4 @@
-use Rattle.gr_machine.specs.declared.event.Event.TheVariants as event
+use Rattle.gr_slice.specs.declared.tries.Kind.TheVariants as kind
 use Rattle.gr_slice.specs.Slices.{Stayed}
 use Rattle.gr_slice.proofs.Staying.{none_before, stayed_of, still_stayed, tried_after}
 use Rattle.gr_slice.proofs.tries.do_urgent.Goals as goal
@@ -25,5 +25,5 @@ returns-clause-none g c =
     let then : Stayed c.args.core shipped.core = still_stayed shipped.done c.args.core served.core shipped.core first c.if-shipped.false c.in_ok-shipped.ensures in
     λ not. record {
       serve = c.in_ok-served.ensures.none c.if-served.false;
-      take = none_before event.Take c.args.core shipped.core then (c.in_ok-taken.ensures.none not);
+      take = none_before kind.Take c.args.core shipped.core then (c.in_ok-taken.ensures.none not);
     }

@@ -1,4 +1,4 @@
-use Rattle.gr_machine.specs.declared.event.Event.TheVariants as event
+use Rattle.gr_slice.specs.declared.tries.Kind.TheVariants as kind
 use Rattle.gr_slice.specs.Slices.{Stayed}
 use Rattle.gr_slice.proofs.Staying.{none_before, stayed_of, still_stayed, tried_after}
 use Rattle.gr_slice.proofs.tries.do_work.Goals as goal
@@ -25,6 +25,6 @@ returns-clause-none g c =
     let then : Stayed c.args.core closed.core = still_stayed closed.done c.args.core ran.core closed.core first c.if-closed.false c.in_ok-closed.ensures.tried in
     λ not. record {
       run = c.in_ok-ran.ensures.none c.if-ran.false;
-      close = none_before event.Close c.args.core ran.core first (c.in_ok-closed.ensures.none c.if-closed.false);
-      ship = none_before event.Ship c.args.core closed.core then (c.in_ok-shipped.ensures.none not);
+      close = none_before kind.Close c.args.core ran.core first (c.in_ok-closed.ensures.none c.if-closed.false);
+      ship = none_before kind.Ship c.args.core closed.core then (c.in_ok-shipped.ensures.none not);
     }

@@ -2,8 +2,8 @@ use Rattle.std.proofs.Common.{sym, subst}
 use Rattle.gr_syntax.specs.declared.syntax.Program.{Program}
 use Rattle.gr_checker.specs.declared.checking.CheckError.{CheckError}
 use Rattle.gr_checker.specs.Refusals.{Refuses}
-use Rattle.gr_top.specs.Due.{accepted}
 use Rattle.gr_top.specs.Readings.{ReadsAs}
+use Rattle.gr_top.specs.Due.{accepted}
 use Rattle.gr_top.proofs.reading.checked.Goals as goal
 
 pub returns-in-Ok : goal.returns-in-Ok

@@ -4,8 +4,8 @@ use Rattle.gr_syntax.specs.declared.syntax.Place.{Place}
 use Rattle.gr_syntax.specs.Faults.{fault}
 use Rattle.gr_text.specs.declared.fault.TextError.TheVariants as faults
 use Rattle.gr_text.specs.Text.{Reads, IsFaultOf}
-use Rattle.gr_top.specs.Due.{refused}
 use Rattle.gr_top.specs.Readings.{ReadsAs}
+use Rattle.gr_top.specs.Due.{refused}
 use Rattle.gr_top.specs.AnswerView.{reading_of}
 use Rattle.gr_top.specs.declared.reading.TextRead.{TextRead}
 use Rattle.gr_top.proofs.TextOnce.{bad_within, wide_within, long_within}

@@ -1,7 +1,7 @@
 use Rattle.std.proofs.Common.{rules}
 use Rattle.gr_replay.specs.Division.{program_part}
-use Rattle.gr_top.specs.Due.{refused, unread}
 use Rattle.gr_top.specs.Readings.{ReadsAs, ReplaysAs}
+use Rattle.gr_top.specs.Due.{refused, unread}
 use Rattle.gr_top.proofs.replaying.replay_source.Goals as goal
 
 pub returns-in_ok-answer-in-Refused-clause-due : goal.returns-in_ok-answer-in-Refused-clause-due

@@ -1,7 +1,7 @@
 use Rattle.std.proofs.Common.{Err, ap, subst, ◌∙◌, is_some}
 use Rattle.gr_hist.specs.Grammar.{ReadsText, SaysError}
-use Rattle.gr_top.specs.Due.{bad_line, judged, due_replayed}
 use Rattle.gr_top.specs.Readings.{ReplaysAs}
+use Rattle.gr_top.specs.Due.{bad_line, judged, due_replayed}
 use Rattle.gr_top.proofs.Dues.{is_made}
 use Rattle.gr_top.proofs.replaying.replayed.Goals as goal
 

@@ -1,0 +1,4 @@
+pub mod Progress
+pub mod Stuck
+pub mod Judging
+pub mod Leading

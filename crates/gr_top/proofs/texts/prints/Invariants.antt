@@ -1,7 +1,0 @@
-use Rattle.std.proofs.Common.{◌≡◌, ◌++◌, drop}
-use Rattle.std.specs.Prelude.{string_bytes}
-use Rattle.gr_top.specs.Texts as spec
-use Rattle.gr_top.proofs.texts.prints.Given as goal
-
-abbrev pub invariant-loop-entry : goal.invariant-loop-entry
-invariant-loop-entry l = string_bytes l.text ++ spec.prints (drop l.entry-index l.history) ≡ spec.prints l.history
