@@ -62,7 +62,7 @@ stands_still S T ids task kept other s = record { plain = s.plain; there = kept 
 
 module _ (given : Given) (S T : State) (ids : List TaskId) (kept : (id : TaskId) (x : Task) → IsOther ids id → fin.get S.tasks id ≡ Some x → fin.get T.tasks id ≡ Some x) where
   pub unit_still : (u : WorkUnit) → UnitFits given S u → IsOtherUnit ids u → UnitFits given T u
-  unit_still (unit.Single target args scope origin id) f other = record { counted = f.counted; stands = stands_still S T ids _ kept other f.stands }
+  unit_still (unit.Single target args scope origin id) f other = record { known = f.known; counted = f.counted; stands = stands_still S T ids _ kept other f.stands }
   unit_still (unit.Chunk target args scope origin owner lo hi grain) f other = tt
 
   -- a message about another slot

@@ -3,5 +3,3 @@ pub mod Memories
 pub mod Calls
 pub mod Places
 pub mod Events
-pub mod Laid
-pub mod Opening

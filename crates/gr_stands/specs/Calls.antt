@@ -1,6 +1,6 @@
 -- Part 2 of 'stands for', calls: each unended task of the plain state is in one place, and a task that waits for a reply has its request or the reply in
 -- flight once.
-use Rattle.std.specs.Prelude.{◌≡◌, ℕ, ◌<◌, ◌≤◌, ◌==◌, ◌&&◌, if◌then◌else◌, List, [], Option, Some, None}
+use Rattle.std.specs.Prelude.{◌≡◌, ℕ, ◌<◌, ◌≤◌, ◌==◌, ◌&&◌, if◌then◌else◌, true, List, [], length, Option, Some, None}
 use Rattle.std.specs.FinMap as fin
 use Rattle.gr_lang.specs.declared.action.Action.{Action}
 use Rattle.gr_lang.specs.declared.action.Action.TheVariants as action
@@ -18,7 +18,7 @@ use Rattle.gr_msg.specs.declared.message.Unit.{Unit as WorkUnit}
 use Rattle.gr_msg.specs.declared.message.Unit.TheVariants as unit
 use Rattle.gr_net.specs.Sums.{weigh, Each}
 use Rattle.gr_net.specs.Flights.{Everywhere}
-use Rattle.gr_machine.specs.Machines.{Machine, home}
+use Rattle.gr_machine.specs.Machines.{Machine, home, has_task}
 use Rattle.gr_machine.specs.declared.waits.Waits.{Waits}
 use Rattle.gr_machine.specs.declared.waits.Waits.TheVariants as wait
 use Rattle.gr_machine.specs.States.{Suspended, Body}
@@ -78,8 +78,9 @@ pub record SlotFits (given : Given) (state : State) (core slot : ℕ) (task : Su
   pub counted : task.origin < given.setup.cores
   pub stands : is_told task.waits ≡ 0 → StandsAt state task
 
--- A unit that is one task: the plain state has the task, which has done nothing.
+-- A unit that is one task of the program: the plain state has the task, which has done nothing.
 pub record SingleFits (given : Given) (state : State) (target : ℕ) (args : List ℕ) (scope : ScopeId) (origin : ℕ) (id : TaskId) : Type 0 where
+  pub known : has_task (machine_in given) target (length args) ≡ true
   pub counted : origin < given.setup.cores
   pub stands : StandsAt state (new_task id scope origin ((machine_in given).code.start target args))
 

@@ -3,20 +3,19 @@ use Rattle.std.specs.Prelude.{◌≡◌, ℕ, ◌+◌, ◌<◌, List, Some}
 use Rattle.gr_msg.specs.declared.message.Msg.{Msg}
 use Rattle.gr_agg.specs.Laws.{Adds}
 use Rattle.gr_view.specs.Places.{put}
-use Rattle.gr_lang.specs.States.{State, opening_state}
+use Rattle.gr_lang.specs.States.{State}
 use Rattle.gr_merge.specs.Machines.{takes, ships}
 use Rattle.gr_merge.specs.GlobalRuns.{goes_at}
 use Rattle.gr_machine.specs.declared.event.Event.TheVariants as event
 use Rattle.gr_machine.specs.Machines.{Machine}
 use Rattle.gr_machine.specs.Steppers.{stepper}
 use Rattle.gr_machine.specs.GlobalRuns as runs
-use Rattle.gr_machine.specs.GlobalRuns.{opening_world}
 use Rattle.gr_machine.specs.Nets.{world_in}
 use Rattle.gr_machine.specs.States.{Letter}
 use Rattle.gr_machine.specs.Outcomes.{Outcome}
 use Rattle.gr_stands.specs.Worlds.{Given, machine_in, World, Weight, bodies, in_flight, of_letters, of_sends, Acts, Moves}
 use Rattle.gr_stands.specs.Censuses.{Weights, body_census, carried, census}
-use Rattle.gr_stands.specs.Stands.{IsSound, Stands}
+use Rattle.gr_stands.specs.Stands.{Stands}
 
 -- An outcome at a core puts its body there, and no other core has another one.
 abbrev pub OutcomesPutBodies : Type 0
@@ -63,13 +62,3 @@ TakesMove =
     (machine : Machine) (before after : runs.World) (me from clock : ℕ) (slots : List ℕ)
     → goes_at (stepper machine) (takes from) me before (record { clock = clock; event = event.Take from; slots = slots }) ≡ Some after
     → Moves machine.setup.cores (world_in before) (world_in after)
-
--- Whatever the program: where there is a core, and a block has words, each place of an object has an address of its own.
-abbrev pub ProgramsAreSound : Type 0
-ProgramsAreSound = (given : Given) → 0 < given.setup.cores → 0 < given.setup.block → IsSound given
-
--- Before the first step the machine stands for the opening state, in whatever slot main is.
-abbrev pub OpeningsStand : Type 0
-OpeningsStand =
-    (given : Given) (slot : ℕ) → IsSound given → slot < given.slots
-    → Stands given (world_in (opening_world (machine_in given) slot)) (opening_state given.program given.setup.steps)

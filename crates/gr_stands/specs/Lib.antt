@@ -2,6 +2,7 @@ pub mod Worlds
 pub mod Memory
 pub mod Censuses
 pub mod Calls
+pub mod Actions
 pub mod Stands
 pub mod WordActs
 pub mod CallActs

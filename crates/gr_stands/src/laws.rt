@@ -26,13 +26,3 @@ pub fn parts_are_kept()
     ensures no_words { words.WordsStayBehind }
     ensures calls { calls.CallsAreKept }
 {}
-
-/// Each place of an object of a program has an address of its own.
-pub fn programs_are_sound()
-    ensures { laws.ProgramsAreSound }
-{}
-
-/// Before its first step the machine stands for the opening state.
-pub fn openings_stand()
-    ensures { laws.OpeningsStand }
-{}

@@ -4,6 +4,4 @@
 
 mod laws;
 
-pub use laws::{
-    moves_keep_worlds, openings_stand, parts_are_kept, programs_are_sound, worlds_flow,
-};
+pub use laws::{moves_keep_worlds, parts_are_kept, worlds_flow};

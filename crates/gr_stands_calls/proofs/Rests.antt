@@ -29,12 +29,12 @@ use Rattle.gr_stands_calls.proofs.Common.{same_memory, first_goes, rest_here, re
 
 -- ---- messages that tell of no task
 
-no_unit : (h : WorkUnit → ℕ) (from to : ℕ) (m : Msg) → IsOfNoTask m → carried h from to m ≡ 0
+pub no_unit : (h : WorkUnit → ℕ) (from to : ℕ) (m : Msg) → IsOfNoTask m → carried h from to m ≡ 0
 no_unit h from to (msg.Spawn u) n = absurd n
 no_unit h from to (msg.StealGive u) n = absurd n
 no_unit h from to _ n = refl
 
-no_slot : (core slot from to : ℕ) (m : Msg) → IsOfNoTask m → is_about core slot from to m ≡ 0
+pub no_slot : (core slot from to : ℕ) (m : Msg) → IsOfNoTask m → is_about core slot from to m ≡ 0
 no_slot core slot from to (msg.Request k id operation x y z) n = absurd n
 no_slot core slot from to (msg.Reply k id first second) n = absurd n
 no_slot core slot from to _ n = refl

@@ -1,5 +1,0 @@
-use Rattle.gr_stands.proofs.Laid as laid
-use Rattle.gr_stands.proofs.laws.programs_are_sound.Goals as goal
-
-pub returns : goal.returns
-returns c = laid.programs_are_sound

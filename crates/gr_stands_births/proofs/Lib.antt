@@ -1,0 +1,4 @@
+pub mod Turns
+pub mod Opened
+pub mod Started
+pub mod Planted

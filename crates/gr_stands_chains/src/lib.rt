@@ -1,0 +1,7 @@
+//! Outcomes one after another in one event, where each keeps words and calls; and that each message in flight comes from a
+//! core.
+#![tactic(auto)]
+
+mod laws;
+
+pub use laws::{outcomes_follow, senders_stand};

@@ -1,0 +1,4 @@
+pub mod Slots
+pub mod Leaves
+pub mod Quiet
+pub mod Units

@@ -1,0 +1,3 @@
+pub mod Changes
+pub mod Quiet
+pub mod Laws
