@@ -62,6 +62,21 @@ def statuses(lines, cores):
     return found
 
 
+def flight(origin, target, count):
+    """The line of so many packets that were shipped and not taken."""
+    return "in flight from %d to %d: packets %d" % (origin, target, count)
+
+
+def flights(lines, cores):
+    """What is in flight to each core."""
+    for target in range(cores):
+        for origin in range(cores):
+            shipped = sum(line.core == origin and line.event == "ship" and line.about == [target] for line in lines)
+            taken = sum(line.core == target and line.event == "take" and line.about == [origin] for line in lines)
+            if shipped > taken:
+                yield flight(origin, target, shipped - taken)
+
+
 def due(text, names, lines, entries, cores):
     yield from (line.due(names) for line in lines)
     status = statuses(lines, cores)
@@ -73,6 +88,7 @@ def due(text, names, lines, entries, cores):
     told = list(history(lines, entries))
     yield from (names.entry(entry) for entry in told)
     yield "legal %s, entries %d" % ("complete" if told[-1] == ("entry.Over",) else "open", len(told))
+    yield from flights(lines, cores)
     yield CARRIED
 
 

@@ -1,5 +1,5 @@
 """The row of a ring that has no room: of 18 packets the last two come back, and one goes once one was taken."""
-from .lines import CARRIED
+from .lines import CARRIED, flight
 
 TEXT = "task t() { } task main() { let i = 0; while i < 20 { spawn at 1 t(); i = i + 1; } }"
 PACKETS, SPAWNS = 16, 18
@@ -19,4 +19,4 @@ def rows():
     due += ["core 0: clock 35 calls 0 messages 17 packets 17 short 0 batches 0 asks 0 gives 0 going",
             "core 1: clock 20 calls 0 messages 0 packets 0 short 0 batches 0 asks 0 gives 0 going"]
     yield {"name": "a ring without room", "cores": 2, "block": 8, "limit": 1, "steps": 1000000, "events": 2 ** 40, "text": TEXT,
-           "schedule": events}, due + spawns + ["legal open, entries %d" % SPAWNS, CARRIED]
+           "schedule": events}, due + spawns + ["legal open, entries %d" % SPAWNS, flight(0, 1, PACKETS), CARRIED]

@@ -30,8 +30,8 @@ fn words_text(
     Ok(text)
 }
 
-/// The keys of an object at all cores, by rising key.
-fn keys_text(alloc: Global, cores: &[Core], number: usize) -> Result<String, AllocError> {
+/// The keys of an object at all cores, with their words, by rising key.
+fn keys(alloc: Global, cores: &[Core], number: usize) -> Result<Vec<(u64, u64)>, AllocError> {
     let mut all = Vec::new(alloc);
     for core in cores {
         let pairs = core.held(number as u64)?;
@@ -40,8 +40,13 @@ fn keys_text(alloc: Global, cores: &[Core], number: usize) -> Result<String, All
         }
     }
     all.sort()?;
+    Ok(all)
+}
+
+fn keys_text(alloc: Global, cores: &[Core], number: usize) -> Result<String, AllocError> {
+    let keys = keys(alloc, cores, number)?;
     let mut text = format!(in alloc; "object {number}: keys")?;
-    for pair in all.as_slice() {
+    for pair in keys.as_slice() {
         text.push_str(format!(in alloc; " {}={}", pair.0, pair.1)?.as_str())?;
     }
     Ok(text)

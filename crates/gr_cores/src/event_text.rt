@@ -4,20 +4,48 @@ use gr_machine::Event;
 use gr_syntax::HEAP;
 use std::alloc::{AllocError, Global};
 
+/// The kinds of events.
+#[derive(Clone, Copy)]
+enum Kind {
+    Serve,
+    Run,
+    Take,
+    Ship,
+    Close,
+    Steal,
+}
+
+fn kind_of(word: &str) -> Option<Kind> {
+    match word {
+        "serve" => Some(Kind::Serve),
+        "run" => Some(Kind::Run),
+        "take" => Some(Kind::Take),
+        "ship" => Some(Kind::Ship),
+        "close" => Some(Kind::Close),
+        "steal" => Some(Kind::Steal),
+        _ => None,
+    }
+}
+
+/// The event of a kind with a number, or with none.
+fn event_with(kind: Kind, number: Option<u64>) -> Option<Event> {
+    match (kind, number) {
+        (Kind::Serve, None) => Some(Event::Serve),
+        (Kind::Run, None) => Some(Event::Run),
+        (Kind::Take, Some(from)) => Some(Event::Take { from }),
+        (Kind::Ship, Some(dest)) => Some(Event::Ship { dest }),
+        (Kind::Close, Some(object)) => Some(Event::Close { object }),
+        (Kind::Steal, Some(victim)) => Some(Event::Steal { victim }),
+        _ => None,
+    }
+}
+
 /// The event of a text, as `take 0`.
 pub fn event_of(text: &str) -> Option<Event> {
     let mut words = text.split_whitespace();
-    let kind = words.next()?;
+    let kind = kind_of(words.next()?)?;
     let number = words.next().and_then(|word| word.parse::<u64>().ok());
-    match (kind, number) {
-        ("serve", None) => Some(Event::Serve),
-        ("run", None) => Some(Event::Run),
-        ("take", Some(from)) => Some(Event::Take { from }),
-        ("ship", Some(dest)) => Some(Event::Ship { dest }),
-        ("close", Some(object)) => Some(Event::Close { object }),
-        ("steal", Some(victim)) => Some(Event::Steal { victim }),
-        _ => None,
-    }
+    event_with(kind, number)
 }
 
 /// The text of an event.

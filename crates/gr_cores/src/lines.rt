@@ -114,6 +114,19 @@ pub fn are_carried(ends: &[CoreEnd]) -> bool {
         .all(|from| ends.iter().all(|to| is_carried(from, to)))
 }
 
+/// A line for each core from which packets to this one are under way.
+pub fn add_flights(alloc: Global, told: &mut Vec<String>, end: &CoreEnd) -> Result<(), AllocError> {
+    let mut from = 0u64;
+    for count in end.left.as_slice() {
+        if *count > 0 {
+            let to = end.core;
+            told.push(format!(in alloc; "in flight from {from} to {to}: packets {count}")?)?;
+        }
+        from = from.saturating_add(1);
+    }
+    Ok(())
+}
+
 /// What a core has done, in numbers.
 pub fn end_line(alloc: Global, end: &CoreEnd, status: &str) -> Result<String, AllocError> {
     let done = end.counts;

@@ -1,20 +1,26 @@
 //! Makes the runs of the rows of standard input, one JSON object a line, and writes what became of each.
 //!
 //! A row has a name, the numbers of the setup, the text of a program, and for some a schedule: the events in the order in
-//! which they are to be made, as `1 take 0`. What is written of it is each event with what it left, and then the
-//! end of each core and the history. A row without a schedule is run in rounds, and what is written is the events
-//! of each kind, in numbers, what was printed, and what stands in its objects.
+//! which they are to be made, as `1 take 0`, after each of which all cores meet. What is written of it is each event with
+//! what it left, and then the end of each core, the history, and what is still in flight. A row without a schedule is
+//! run in rounds, in which each core has a turn, after which all meet. What is written is what was printed and what
+//! stands in its objects, and where the row asks for it each event and the end of each core. Of a load so many events
+//! are made, each a Run where one may be made and else a Serve; bench/core.py times it with great numbers.
 #![tactic(auto)]
 
 mod contents;
 mod event_text;
-mod history;
 mod lines;
+mod load;
 mod mark_text;
 mod message_text;
+mod round_runs;
 mod rounds;
 mod row;
 mod runs;
+mod schedules;
+mod telling;
+mod verdicts;
 mod world;
 
 use crate::row::read_row;
@@ -24,19 +30,21 @@ use serde_json::Value;
 use std::alloc::{AllocError, Global};
 use std::io::{BufRead, BufReader};
 
+/// The line that stands for a row which isn't one.
+fn no_row(alloc: Global) -> Result<Vec<String>, AllocError> {
+    let mut lines = Vec::new(alloc);
+    lines.push(String::from_str(alloc, "no row")?)?;
+    Ok(lines)
+}
+
 /// What became of the row of a line.
 fn answer(alloc: Global, line: &str, reducers: &Reducers) -> Result<Vec<String>, AllocError> {
-    let mut none = Vec::new(alloc);
     let Ok(value) = Value::from_str(alloc, line) else {
-        none.push(String::from_str(alloc, "no row")?)?;
-        return Ok(none);
+        return no_row(alloc);
     };
     match read_row(alloc, &value)? {
         Some(row) => told(alloc, &row, reducers),
-        None => {
-            none.push(String::from_str(alloc, "no row")?)?;
-            Ok(none)
-        }
+        None => no_row(alloc),
     }
 }
 

@@ -63,7 +63,7 @@ fn effect_text(alloc: Global, effect: Effect) -> Result<String, AllocError> {
     }
 }
 
-/// The text of a message of calls on words, of scopes, or of units.
+/// The text of a request or of the reply to one.
 fn call_text(alloc: Global, message: &Msg) -> Result<String, AllocError> {
     match message {
         Msg::Request {
@@ -86,19 +86,60 @@ fn call_text(alloc: Global, message: &Msg) -> Result<String, AllocError> {
             let id = task_text(alloc, *id)?;
             format!(in alloc; "reply {slot} {id} {first} {second}")
         }
-        Msg::Spawn { unit } => format!(in alloc; "spawn {}", unit_text(alloc, unit)?.as_str()),
-        Msg::StealGive { unit } => format!(in alloc; "give {}", unit_text(alloc, unit)?.as_str()),
+        _ => String::from_str(alloc, "another"),
+    }
+}
+
+/// The word of a message, and its scope.
+fn with_scope(alloc: Global, word: &str, scope: ScopeId) -> Result<String, AllocError> {
+    let scope = scope_text(alloc, scope)?;
+    format!(in alloc; "{word} {scope}")
+}
+
+/// The word of a message, and its unit.
+fn with_unit(alloc: Global, word: &str, unit: &Unit) -> Result<String, AllocError> {
+    let unit = unit_text(alloc, unit)?;
+    format!(in alloc; "{word} {unit}")
+}
+
+/// The text of a message of scopes or of units.
+fn scope_message(alloc: Global, message: &Msg) -> Result<String, AllocError> {
+    match message {
+        Msg::Spawn { unit } => with_unit(alloc, "spawn", unit),
+        Msg::StealGive { unit } => with_unit(alloc, "give", unit),
         Msg::StealAsk => String::from_str(alloc, "ask"),
-        Msg::Enrol { scope } => format!(in alloc; "enrol {}", scope_text(alloc, *scope)?.as_str()),
-        Msg::EnrolAck { scope } => {
-            format!(in alloc; "enrolled {}", scope_text(alloc, *scope)?.as_str())
-        }
+        Msg::Enrol { scope } => with_scope(alloc, "enrol", *scope),
+        Msg::EnrolAck { scope } => with_scope(alloc, "enrolled", *scope),
+        Msg::Leave { scope } => with_scope(alloc, "leave", *scope),
         Msg::Complete { scope, count } => {
             let scope = scope_text(alloc, *scope)?;
             format!(in alloc; "complete {scope} {count}")
         }
-        Msg::Leave { scope } => format!(in alloc; "leave {}", scope_text(alloc, *scope)?.as_str()),
-        _ => String::from_str(alloc, "another"),
+        other => call_text(alloc, other),
+    }
+}
+
+/// The text of a message of turns at a vector.
+fn turn_text(alloc: Global, message: &Msg) -> Result<String, AllocError> {
+    match message {
+        Msg::Turn { vector } => format!(in alloc; "turn {vector}"),
+        Msg::Grant { vector, head, tail } => format!(in alloc; "grant {vector} {head} {tail}"),
+        Msg::Done { vector, head, tail } => format!(in alloc; "done {vector} {head} {tail}"),
+        Msg::ElemPut {
+            vector,
+            position,
+            word,
+        } => format!(in alloc; "put {vector} {position} {word}"),
+        Msg::ElemGet { vector, position } => format!(in alloc; "get {vector} {position}"),
+        Msg::ElemAck {
+            vector,
+            position,
+            got,
+        } => {
+            let got = found_text(alloc, *got)?;
+            format!(in alloc; "got {vector} {position} {got}")
+        }
+        other => scope_message(alloc, other),
     }
 }
 
@@ -118,23 +159,6 @@ pub fn message_text(alloc: Global, message: &Msg) -> Result<String, AllocError> 
             let before = found_text(alloc, *before)?;
             format!(in alloc; "batched {batch} before {before}")
         }
-        Msg::Turn { vector } => format!(in alloc; "turn {vector}"),
-        Msg::Grant { vector, head, tail } => format!(in alloc; "grant {vector} {head} {tail}"),
-        Msg::Done { vector, head, tail } => format!(in alloc; "done {vector} {head} {tail}"),
-        Msg::ElemPut {
-            vector,
-            position,
-            word,
-        } => format!(in alloc; "put {vector} {position} {word}"),
-        Msg::ElemGet { vector, position } => format!(in alloc; "get {vector} {position}"),
-        Msg::ElemAck {
-            vector,
-            position,
-            got,
-        } => {
-            let got = found_text(alloc, *got)?;
-            format!(in alloc; "got {vector} {position} {got}")
-        }
-        other => call_text(alloc, other),
+        other => turn_text(alloc, other),
     }
 }

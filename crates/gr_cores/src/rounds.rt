@@ -157,10 +157,27 @@ impl<'a> Rounds<'a> {
     }
 
     /// How many events a core makes at most in its turn.
-    fn turns(&mut self) -> u64 {
+    fn most(&mut self) -> u64 {
         let slice = self.plan.slice;
         let fewer = self.draw(slice);
         slice.saturating_sub(fewer)
+    }
+
+    /// Whether a core has made an event in its turn. Where it has, all cores meet.
+    fn turn(&mut self, at: usize, reducers: &Reducers) -> Result<bool, AllocError> {
+        let most = self.most();
+        let mut goes = false;
+        for _ in 0..most {
+            let kind = self.draw(KINDS);
+            if !self.goes_on(at, kind, reducers)? {
+                break;
+            }
+            goes = true;
+        }
+        if goes {
+            self.world.meet();
+        }
+        Ok(goes)
     }
 
     /// Whether one of the cores has made an event in a round. With a seed the first core and the kinds of the events are
@@ -171,12 +188,7 @@ impl<'a> Rounds<'a> {
         let mut goes = false;
         for offset in 0..count {
             let at = (first.wrapping_add(offset) % count) as usize;
-            let turns = self.turns();
-            for _ in 0..turns {
-                let kind = self.draw(KINDS);
-                if !self.goes_on(at, kind, reducers)? {
-                    break;
-                }
+            if self.turn(at, reducers)? {
                 goes = true;
             }
         }

@@ -1,5 +1,6 @@
 //! The rows.
 use crate::event_text::event_of;
+use crate::world::is_setup;
 use gr_machine::{Event, Setup};
 use serde_json::Value;
 use std::alloc::{AllocError, Global};
@@ -11,18 +12,20 @@ pub struct Planned {
     pub event: Event,
 }
 
-/// A row: its name, the numbers of the run, the program, and the schedule, or else how it is run in rounds; and whether the
-/// events are written one by one, and the counts of the cores; before each event which ones are enabled, and behind
-/// the last one those of a core. A row of a long run says how many events it has at least, and another one which kinds
-/// of messages are shipped.
-#[derive(Drop)]
-pub struct Row<'a> {
-    pub name: &'a str,
-    pub setup: Setup,
-    pub text: &'a str,
-    pub schedule: Option<Vec<Planned>>,
+/// How a row without a schedule is run in rounds: how many events a core makes at most in its turn, and 0, or where the
+/// draws begin by which events are picked. Of a load it is said how many events are made instead.
+#[derive(Clone, Copy)]
+pub struct Course {
     pub slice: u64,
     pub seed: u64,
+    pub load: Option<u64>,
+}
+
+/// What is written of a run: the events one by one, and the counts of the cores; before each event of a schedule which
+/// ones are enabled, and behind the last one those of a core; of a long run, how many events it has at least, and which
+/// kinds of messages are shipped.
+#[derive(Clone, Copy)]
+pub struct Shown {
     pub lines: bool,
     pub counts: bool,
     pub enabled: bool,
@@ -31,30 +34,60 @@ pub struct Row<'a> {
     pub kinds: bool,
 }
 
+/// A row: its name, the numbers of the run, the program, and the schedule, or else how it is run in rounds; and what is
+/// written of it.
+#[derive(Drop)]
+pub struct Row<'a> {
+    pub name: &'a str,
+    pub setup: Setup,
+    pub text: &'a str,
+    pub schedule: Option<Vec<Planned>>,
+    pub course: Course,
+    pub shown: Shown,
+}
+
 fn number(value: &Value, name: &str) -> Option<u64> {
     value.get(name).and_then(Value::as_u64)
 }
 
+/// Whether a number is there that isn't 0.
+fn is_set(value: &Value, name: &str) -> bool {
+    number(value, name).unwrap_or(0) != 0
+}
+
+fn string<'a>(value: &'a Value, name: &str) -> Option<&'a str> {
+    value.get(name).and_then(Value::as_str)
+}
+
 /// The numbers of a run, where they are in their ranges.
 fn setup(value: &Value) -> Option<Setup> {
-    let cores = number(value, "cores")?;
-    let block = number(value, "block")?;
-    let limit = number(value, "limit")?;
-    let steps = number(value, "steps")?;
-    let events = number(value, "events")?;
-    if cores < 1 || cores > 16 || block < 1 || block > 4096 || limit < 1 || limit > 256 {
-        return None;
+    let setup = Setup {
+        cores: number(value, "cores")?,
+        block: number(value, "block")?,
+        limit: number(value, "limit")?,
+        steps: number(value, "steps")?,
+        events: number(value, "events")?,
+    };
+    if is_setup(setup) { Some(setup) } else { None }
+}
+
+fn read_course(value: &Value) -> Course {
+    Course {
+        slice: number(value, "slice").unwrap_or(1).max(1),
+        seed: number(value, "seed").unwrap_or(0),
+        load: number(value, "load"),
     }
-    if events > 1 << 40 {
-        return None;
+}
+
+fn read_shown(value: &Value) -> Shown {
+    Shown {
+        lines: is_set(value, "lines"),
+        counts: is_set(value, "counts"),
+        enabled: is_set(value, "enabled"),
+        behind: number(value, "behind"),
+        least: number(value, "least"),
+        kinds: is_set(value, "kinds"),
     }
-    Some(Setup {
-        cores,
-        block,
-        limit,
-        steps,
-        events,
-    })
 }
 
 /// The event of a text, as `1 take 0`, of which the first number is the core.
@@ -65,6 +98,7 @@ fn planned_in(text: &str) -> Option<Planned> {
     Some(Planned { core, event })
 }
 
+/// The events of a schedule; none where one of the texts isn't one.
 fn schedule(alloc: Global, items: &[Value]) -> Result<Option<Vec<Planned>>, AllocError> {
     let mut events = Vec::new(alloc);
     for item in items {
@@ -76,40 +110,35 @@ fn schedule(alloc: Global, items: &[Value]) -> Result<Option<Vec<Planned>>, Allo
     Ok(Some(events))
 }
 
-/// The row of a value; none where it isn't one.
-pub fn read_row<'a>(alloc: Global, value: &'a Value) -> Result<Option<Row<'a>>, AllocError> {
-    let Some(name) = value.get("name").and_then(Value::as_str) else {
-        return Ok(None);
-    };
-    let Some(text) = value.get("text").and_then(Value::as_str) else {
-        return Ok(None);
-    };
-    let Some(setup) = setup(value) else {
-        return Ok(None);
-    };
-    let slice = number(value, "slice").unwrap_or(1).max(1);
-    let seed = number(value, "seed").unwrap_or(0);
-    let lines = number(value, "lines").unwrap_or(0) != 0;
-    let counts = number(value, "counts").unwrap_or(0) != 0;
-    let schedule = match value.get("schedule").and_then(Value::as_array) {
-        Some(items) => match schedule(alloc, items.as_slice())? {
-            Some(events) => Some(events),
-            None => return Ok(None),
-        },
-        None => None,
-    };
-    Ok(Some(Row {
+/// A row with these texts and numbers; none where its schedule isn't one.
+fn with_schedule<'a>(
+    alloc: Global,
+    value: &'a Value,
+    name: &'a str,
+    text: &'a str,
+    setup: Setup,
+) -> Result<Option<Row<'a>>, AllocError> {
+    let mut row = Row {
         name,
         setup,
         text,
-        schedule,
-        slice,
-        seed,
-        lines,
-        counts,
-        enabled: number(value, "enabled").unwrap_or(0) != 0,
-        behind: number(value, "behind"),
-        least: number(value, "least"),
-        kinds: number(value, "kinds").unwrap_or(0) != 0,
-    }))
+        schedule: None,
+        course: read_course(value),
+        shown: read_shown(value),
+    };
+    if let Some(items) = value.get("schedule").and_then(Value::as_array) {
+        row.schedule = schedule(alloc, items.as_slice())?;
+        if row.schedule.is_none() {
+            return Ok(None);
+        }
+    }
+    Ok(Some(row))
+}
+
+/// The row of a value; none where it isn't one.
+pub fn read_row<'a>(alloc: Global, value: &'a Value) -> Result<Option<Row<'a>>, AllocError> {
+    match (string(value, "name"), string(value, "text"), setup(value)) {
+        (Some(name), Some(text), Some(setup)) => with_schedule(alloc, value, name, text, setup),
+        _ => Ok(None),
+    }
 }

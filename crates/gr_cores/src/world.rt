@@ -1,21 +1,29 @@
 //! The cores of a run.
-ghost use Rattle.std.specs.Prelude.{◌≡◌, true};
+ghost use Rattle.std.specs.Prelude.{◌≡◌, IfOk, true};
+ghost use Rattle.std.specs.Coded.{codes, coded_ℕ};
+ghost use Rattle.std.specs.FinMap as fin;
+ghost use Rattle.std.specs.FinSet as set;
+ghost use Rattle.std.specs.Ordering.{nat_cmp};
+ghost use Rattle.gr_syntax.specs.contracts.syntax.Stmt as stmt;
 ghost use Rattle.gr_posts.specs.Posts.{IsSetup};
+ghost use Rattle.gr_cores.specs.WorldWords.{AreAsBefore, AreBoth-prop, IsOneRun, MayMake};
 
 use gr_addr::MAX_BLOCK;
 use gr_code::Code;
 use gr_core::{Core, Stepped};
-use gr_machine::{CoreEnd, Event, Setup};
-use gr_mail::mailboxes;
+use gr_machine::{CoreEnds, Event, Setup};
 use gr_msg::{MAX_CLOCK, MAX_MESSAGES};
 use gr_reduce::Reducers;
 use gr_syntax::MAX_CORES;
+use gr_world::meet_all;
 use std::alloc::{AllocError, Global};
+use std::mem;
 
-/// The cores of a run, in the order of their numbers.
+/// The cores of a run, in the order of their numbers; none where the last event found no memory.
 #[derive(Drop)]
 pub struct World<'a> {
     cores: Vec<Core<'a>>,
+    ghost run: { IsOneRun cores.items } by { Prim.hlevel (AreBoth-prop, codes, stmt.the_row.coded, set.code {R = nat_cmp} coded_ℕ, fin.code {R = nat_cmp} coded_ℕ coded_ℕ) },
 }
 
 /// Whether the numbers of a run are in their ranges.
@@ -40,36 +48,45 @@ pub enum Made {
     NotEnabled,
 }
 
-/// A core after an event, if it may make that.
-fn step_core<'a>(
-    core: Core<'a>,
+/// Whether there is a core of this number, and it may make an event.
+fn may_make(cores: &[Core], at: usize, event: Event) -> bool
+    ensures { result ≡ true → MayMake at event cores.now }
+{
+    match cores.get(at) {
+        Some(core) => core.enabled(event),
+        None => false,
+    }
+}
+
+/// The cores after one of them has made an event that it may make, and whether that was done.
+fn step_at<'a>(
+    cores: Vec<Core<'a>>,
+    at: usize,
     event: Event,
     reducers: &Reducers,
-) -> Result<(Core<'a>, Made), AllocError> {
-    if !core.enabled(event) {
-        return Ok((core, Made::NotEnabled));
-    }
+) -> Result<(Vec<Core<'a>>, bool), AllocError>
+    requires { MayMake at event cores.items }
+    ensures { IfOk result (λ made. AreAsBefore cores.entry.items made.0.items) }
+{
+    let mut cores = cores;
+    let core = cores.remove(at);
     let Stepped { core, done } = core.step(event, reducers)?;
-    Ok((core, if done { Made::Done } else { Made::NotDone }))
+    cores.insert(at, core)?;
+    Ok((cores, done))
 }
 
 impl<'a> World<'a> {
-    /// The one core before its first event; no world where there are others.
+    /// The cores before their first event, all of which have met; none where the numbers of the run are out of range.
     pub fn start(
         alloc: Global,
         setup: Setup,
         code: &'a Code<'a>,
     ) -> Result<Option<World<'a>>, AllocError> {
-        if setup.cores != 1 || !is_setup(setup) {
+        if !is_setup(setup) {
             return Ok(None);
         }
-        let mut mails = mailboxes(alloc, 1)?;
-        let Some(mail) = mails.pop() else {
-            return Ok(None);
-        };
-        let core = Core::start(alloc, setup, 0, code, mail)?;
-        let mut cores = Vec::new(alloc);
-        cores.push(core)?;
+        let mut cores = gr_world::start(alloc, setup, code)?;
+        meet_all(&mut cores);
         Ok(Some(World { cores }))
     }
 
@@ -80,13 +97,21 @@ impl<'a> World<'a> {
         event: Event,
         reducers: &Reducers,
     ) -> Result<Made, AllocError> {
-        if at >= self.cores.len() {
+        if !may_make(&self.cores, at, event) {
             return Ok(Made::NotEnabled);
         }
-        let core = self.cores.remove(at);
-        let (core, made) = step_core(core, event, reducers)?;
-        self.cores.insert(at, core)?;
-        Ok(made)
+        let none = Vec::new(*self.cores.allocator());
+        let cores = mem::replace(&mut self.cores, none);
+        let (cores, done) = step_at(cores, at, event, reducers)?;
+        self.cores = cores;
+        Ok(if done { Made::Done } else { Made::NotDone })
+    }
+
+    /// All cores meet: each packet that was shipped is known, and so is each slot that is free.
+    pub fn meet(&mut self) {
+        if self.cores.len() > 0 {
+            meet_all(&mut self.cores);
+        }
     }
 
     /// Whether as many messages of a core wait for another one as fill a packet.
@@ -125,13 +150,13 @@ impl<'a> World<'a> {
         self.cores.iter().any(|core| core.spent())
     }
 
-    /// The ends of all cores.
-    pub fn finish(self, alloc: Global) -> Result<Vec<CoreEnd>, AllocError> {
-        let World { cores } = self;
-        let mut ends = Vec::new(alloc);
-        for core in cores {
-            ends.push(core.finish())?;
+    /// The ends of all cores, after a last meeting.
+    pub fn finish(self, alloc: Global) -> Result<CoreEnds, AllocError> {
+        let World { mut cores } = self;
+        if cores.len() == 0 {
+            return Ok(CoreEnds::new(alloc));
         }
-        Ok(ends)
+        meet_all(&mut cores);
+        gr_world::finish(alloc, cores)
     }
 }
