@@ -1,0 +1,5 @@
+pub mod Waiters
+pub mod Marks
+pub mod Runs
+pub mod Serves
+pub mod Steps
