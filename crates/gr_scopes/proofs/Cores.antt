@@ -85,7 +85,7 @@ core_acted given names more before after ids me a b k o s keeps act old = record
       | inl e ↦ subst (λ (r : ScopeId). IsWaiter b l u r) (sym e) (act.stays l u ne there (subst (λ (r : ScopeId). IsWaiter a l u r) e f))
       | inr e ↦ record { outer = f.outer; opened = f.opened; master = f.master; there = act.masters_off q e ∙ f.there; waits = f.waits; action = f.action }
     ]
-    wait_still l u ne there _ f = tt
+    wait_still l u ne there _ f = f
 
 -- ---- names and tree
 

@@ -58,10 +58,18 @@ pub record IsWaiter (body : Body) (slot : ℕ) (task : Suspended) (scope : Scope
   pub waits : master.waiter ≡ Some (waiter.Task slot)
   pub action : WaitsThere task.action
 
+-- The action is a call.
+abbrev pub IsCall : Action → Type 0
+IsCall (action.Call call) = Unit
+IsCall _ = ⊥
+
+-- A task that is ready, or is trapped, waits for nothing; one that waits for no scope does so for what comes of its call.
 abbrev pub WaitStands : Given → Body → ℕ → Suspended → Waits → Type 0
 WaitStands given body slot task (wait.Enrolment scope) = IsEnrolling given task scope
 WaitStands given body slot task (wait.Scope scope) = IsWaiter body slot task scope
-WaitStands given body slot task _ = Unit
+WaitStands given body slot task wait.Going = Unit
+WaitStands given body slot task wait.Nothing = Unit
+WaitStands given body slot task _ = IsCall task.action
 
 -- A task in a slot: its scopes are those of the plain state, the core keeps the masters of those that it has opened, and it waits rightly.
 pub record SlotStands (given : Given) (names : Names) (tree : Tree) (core : ℕ) (body : Body) (slot : ℕ) (task : Suspended) : Type 0 where

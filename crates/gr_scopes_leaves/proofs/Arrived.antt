@@ -30,7 +30,7 @@ use Rattle.gr_machine.specs.Outcomes.{Outcome, quietly}
 use Rattle.gr_machine.specs.Openings.{root_scope}
 use Rattle.gr_machine.specs.Slots.{waiting, dropped}
 use Rattle.gr_machine.specs.Runs.{acts, without_ready}
-use Rattle.gr_machine.specs.ScopeRuns.{can_complete, can_leave, arrives, arrives_in, arrives_with, arrives_last, arrives_early, arrived, with_leave, passes}
+use Rattle.gr_machine.specs.ScopeRuns.{can_arrive, can_complete, can_leave, arrives, arrives_in, arrives_with, arrives_last, arrives_early, arrived, with_leave, passes}
 use Rattle.gr_stands.specs.Worlds.{Given, machine_in, World, bodies}
 use Rattle.gr_stands.specs.Censuses.{of_held, going_on}
 use Rattle.gr_stands.specs.Calls.{StandsAt, of_slot, times}
@@ -80,16 +80,16 @@ module _ (given : Given) (names : Names) (w : World) (S : State) (me k : ℕ) (m
   none_open = ap (λ (x : Waits). at_loop x t.action) goes
 
   -- It has a scope open.
-  record Inner : Type 0 where
-    scope : ScopeId
-    outer : List ScopeId
-    is : t.opened ≡ scope ∷ outer
+  pub record Inner : Type 0 where
+    pub scope : ScopeId
+    pub outer : List ScopeId
+    pub is : t.opened ≡ scope ∷ outer
 
   inner_of : (ss : List ScopeId) → t.opened ≡ ss → 0 < length ss → Inner
   inner_of [] e l = absurd (omega arith)
   inner_of (x ∷ ss) e l = record { scope = x; outer = ss; is = e }
 
-  inner_is : Inner
+  pub inner_is : Inner
   inner_is = inner_of t.opened refl (omega (arith, fits.depth.depth, none_open, (goes_to given.program t.running nothing action.Arrive (due_first given.program t action.Arrive fits.depth due (λ x. x))).arrivals_are))
 
   module _ (s : ScopeId) (outer : List ScopeId) (is : t.opened ≡ s ∷ outer) where
@@ -110,12 +110,12 @@ module _ (given : Given) (names : Names) (w : World) (S : State) (me k : ℕ) (m
     unwaited : is_waited_for (a.scopes.masters s) ≡ 0
     unwaited = omega (arith, (st.scopes.cores me).owners s, late_here, there_is)
 
-    record Found : Type 0 where
-      master : Master
-      there : a.scopes.masters s ≡ Some master
-      nobody : master.waiter ≡ None
+    pub record Found : Type 0 where
+      pub master : Master
+      pub there : a.scopes.masters s ≡ Some master
+      pub nobody : master.waiter ≡ None
 
-    found : Found
+    pub found : Found
     found = go (a.scopes.masters s) refl
       where
         free : (o : Option Waiter) → one_if_some o ≡ 0 → o ≡ None
@@ -141,7 +141,7 @@ module _ (given : Given) (names : Names) (w : World) (S : State) (me k : ℕ) (m
       | inr f ↦ f
     ]
 
-    counts_it : Counts (a.scopes.counts s) 1
+    pub counts_it : Counts (a.scopes.counts s) 1
     counts_it = counts_some (a.scopes.counts s) 1 (omega arith) (omega (arith, st.scopes.counts s me, late_here))
 
     abbrev tasks : ℕ
@@ -293,6 +293,23 @@ module _ (given : Given) (names : Names) (w : World) (S : State) (me k : ℕ) (m
           root = let r = root_there passing.body None (ap (λ (y : Scopes). y.masters) scopes) refl in record { master = r.master; passed = r.passed };
         })
 
+    pub can : can_arrive a s ≡ true
+    can = ap (λ (x : Option LocalCount). can_complete x 1 && can_leave (a.scopes.masters s) && not (is_waited (a.scopes.masters s))) counts_it.is
+        ∙ ap (λ (x : Option Master). can_complete (Some (count.Active tasks)) 1 && can_leave x && not (is_waited x)) found.there
+        ∙ ap (λ (x : Option Waiter). nat_le 1 tasks && nat_lt 0 master.active && not (is_some x)) found.nobody
+        ∙ last (nat_le 1 tasks) (nat_lt 0 master.active) (lower_le 1 tasks counts_it.enough) (lower 0 master.active stood.alive)
+      where
+        lower : (i j : ℕ) → i < j → nat_lt i j ≡ true
+        lower i j l = grind (arith, nat_tests, l)
+
+        lower_le : (i j : ℕ) → i ≤ j → nat_le i j ≡ true
+        lower_le i j l = grind (arith, nat_tests, l)
+
+        last : (p q : Bool) → p ≡ true → q ≡ true → (p && q && true) ≡ true
+        last true true e f = refl
+        last true false e f = absurd (cc)
+        last false q e f = absurd (cc)
+
     -- ---- the row
 
     row : acts (machine_in given) me (without_ready a) k t t.action ≡ arrives_with (machine_in given) arriving k t s (left_of (Some (count.Active tasks)) 1)
@@ -300,29 +317,6 @@ module _ (given : Given) (names : Names) (w : World) (S : State) (me k : ℕ) (m
         ∙ ap (arrives (machine_in given) (without_ready a) k t) is
         ∙ ap (λ (b : Bool). if b then arrives_with (machine_in given) arriving k t s (left_of (a.scopes.counts s) 1) else dropped (without_ready a) k) can
         ∙ ap (λ (x : Option LocalCount). arrives_with (machine_in given) arriving k t s (left_of x 1)) counts_it.is
-      where
-        both : (x y : ℕ) → 1 ≤ x → 0 < y → (nat_le 1 x && nat_lt 0 y) ≡ true
-        both x y l r = grind (arith, nat_tests, l, r)
-
-        and_true : (p q : Bool) → p ≡ true → q ≡ true → (p && q) ≡ true
-        and_true p q e f = ap (λ (b : Bool). b && q) e ∙ f
-
-        can : (can_complete (a.scopes.counts s) 1 && can_leave (a.scopes.masters s) && not (is_waited (a.scopes.masters s))) ≡ true
-        can = ap (λ (x : Option LocalCount). can_complete x 1 && can_leave (a.scopes.masters s) && not (is_waited (a.scopes.masters s))) counts_it.is
-            ∙ ap (λ (x : Option Master). can_complete (Some (count.Active tasks)) 1 && can_leave x && not (is_waited x)) found.there
-            ∙ ap (λ (x : Option Waiter). nat_le 1 tasks && nat_lt 0 master.active && not (is_some x)) found.nobody
-            ∙ last (nat_le 1 tasks) (nat_lt 0 master.active) (lower_le 1 tasks counts_it.enough) (lower 0 master.active stood.alive)
-          where
-            lower : (i j : ℕ) → i < j → nat_lt i j ≡ true
-            lower i j l = grind (arith, nat_tests, l)
-
-            lower_le : (i j : ℕ) → i ≤ j → nat_le i j ≡ true
-            lower_le i j l = grind (arith, nat_tests, l)
-
-            last : (p q : Bool) → p ≡ true → q ≡ true → (p && q && true) ≡ true
-            last true true e f = refl
-            last true false e f = absurd (cc)
-            last false q e f = absurd (cc)
 
     equal : (x n : ℕ) → x ≡ n → (x == n) ≡ true
     equal x n e = grind (arith, nat_tests)
@@ -330,7 +324,7 @@ module _ (given : Given) (names : Names) (w : World) (S : State) (me k : ℕ) (m
     unequal : (x n : ℕ) → x ≢ n → (x == n) ≡ false
     unequal x n ne = grind (arith, nat_tests)
 
-    arrival : Arrives given names w S me k t holder
+    arrival : Arrives given names w S me t holder (acts (machine_in given) me (without_ready a) k t t.action)
     arrival = elim (cases_eq tasks 1) [
       | inl one ↦
           let gone_count : completed (Some (count.Active tasks)) 1 ≡ None = ap (λ (b : Bool). if b then None else Some (count.Active (tasks - 1))) (equal tasks 1 one) in
@@ -340,23 +334,29 @@ module _ (given : Given) (names : Names) (w : World) (S : State) (me k : ℕ) (m
           elim (cases_eq master.active 1) [
             | inl alone ↦
                 let gone_master : after_leave (Some waited) ≡ None = ap (λ (b : Bool). if is_some (if b then Some (waiter.Task k) else None) then None else Some (record { active = master.active - 1; waiter = Some (waiter.Task k) })) (equal master.active 1 alone) in
-                inr (subst (λ (x : Outcome). KeepsScopes given w me [] x names after)
+                subst (Arrives given names w S me t holder)
                 (sym (last ∙ ap (λ (b : Bool). arrives_last (machine_in given) arriving k t s (release_of (if b then Some (waiter.Task k) else None))) (equal master.active 1 alone)))
-                (pass_keeps one alone gone_count gone_master))
+                (inr (refl, pass_keeps one alone gone_count gone_master))
             | inr others ↦
                 let less_master : after_leave (Some waited) ≡ Some (record { active = master.active - 1; waiter = Some (waiter.Task k) })
                 = ap (λ (b : Bool). if is_some (if b then Some (waiter.Task k) else None) then None else Some (record { active = master.active - 1; waiter = Some (waiter.Task k) })) (unequal master.active 1 others) in
-                inl (subst (λ (x : Outcome). KeepsScopes given w me [] x names tree)
+                subst (Arrives given names w S me t holder)
                 (sym (last ∙ ap (λ (b : Bool). arrives_last (machine_in given) arriving k t s (release_of (if b then Some (waiter.Task k) else None))) (unequal master.active 1 others)))
-                (waits_keep (waiting (with_leave arriving s) k t (wait.Scope s)) None (master.active - 1) refl refl refl (leaving_is None (Some (record { active = master.active - 1; waiter = Some (waiter.Task k) })) gone_count less_master)
-                tt refl refl (sym one) (fewer master.active stood.alive others) (omega (arith, stood.alive))))
+                (inl (
+                  refl,
+                  waits_keep (waiting (with_leave arriving s) k t (wait.Scope s)) None (master.active - 1) refl refl refl (leaving_is None (Some (record { active = master.active - 1; waiter = Some (waiter.Task k) })) gone_count less_master)
+                      tt refl refl (sym one) (fewer master.active stood.alive others) (omega (arith, stood.alive)),
+                ))
           ]
       | inr several ↦
           let less_count : completed (Some (count.Active tasks)) 1 ≡ Some (count.Active (tasks - 1)) = ap (λ (b : Bool). if b then None else Some (count.Active (tasks - 1))) (unequal tasks 1 several) in
-          inl (subst (λ (x : Outcome). KeepsScopes given w me [] x names tree)
+          subst (Arrives given names w S me t holder)
           (sym (row ∙ ap (λ (b : Bool). arrives_with (machine_in given) arriving k t s (if b then rest.Zero else rest.More)) (unequal tasks 1 several)))
-          (waits_keep (waiting arriving k t (wait.Scope s)) (Some (count.Active (tasks - 1))) master.active refl refl refl (arriving_is (Some (count.Active (tasks - 1))) less_count)
-          (fewer tasks counts_it.enough several) refl refl (omega (arith, counts_it.enough)) stood.alive refl))
+          (inl (
+            refl,
+            waits_keep (waiting arriving k t (wait.Scope s)) (Some (count.Active (tasks - 1))) master.active refl refl refl (arriving_is (Some (count.Active (tasks - 1))) less_count)
+                (fewer tasks counts_it.enough several) refl refl (omega (arith, counts_it.enough)) stood.alive refl,
+          ))
     ]
       where
         fewer : (x : ℕ) → 1 ≤ x → x ≢ 1 → 0 < x - 1

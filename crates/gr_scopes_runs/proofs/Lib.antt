@@ -1,0 +1,4 @@
+pub mod Leads
+pub mod Units
+pub mod Spawns
+pub mod Tasks

@@ -1,0 +1,5 @@
+pub mod Served
+pub mod Acks
+pub mod Leaves
+pub mod Messages
+pub mod Inner
