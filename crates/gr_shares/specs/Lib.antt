@@ -1,0 +1,4 @@
+pub mod Loops
+pub mod Shares
+pub mod ShareActs
+pub mod Laws

@@ -1,0 +1,4 @@
+pub mod Counting
+pub mod Tasks
+pub mod Others
+pub mod Changed

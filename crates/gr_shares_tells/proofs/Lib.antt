@@ -1,0 +1,3 @@
+pub mod Units
+pub mod Counted
+pub mod Answered

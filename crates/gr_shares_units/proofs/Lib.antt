@@ -1,0 +1,4 @@
+pub mod Ranges
+pub mod Stay
+pub mod Chunks
+pub mod Opened
