@@ -1,0 +1,3 @@
+pub mod Kept
+pub mod Cores
+pub mod Opening

@@ -1,0 +1,5 @@
+pub mod Frame
+pub mod Joins
+pub mod Turned
+pub mod Moved
+pub mod Comes
