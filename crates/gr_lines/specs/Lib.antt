@@ -1,0 +1,4 @@
+pub mod Lines
+pub mod Waiting
+pub mod Leaving
+pub mod Laws

@@ -1,0 +1,4 @@
+pub mod Off
+pub mod Tasks
+pub mod Waits
+pub mod Messages

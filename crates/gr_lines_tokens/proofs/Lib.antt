@@ -1,0 +1,5 @@
+pub mod Firsts
+pub mod Asked
+pub mod Granted
+pub mod Ended
+pub mod Served
