@@ -1,0 +1,4 @@
+pub mod Weights
+pub mod Orders
+pub mod Kept
+pub mod Opening

@@ -1,0 +1,4 @@
+pub mod Weights
+pub mod Elements
+pub mod ElementActs
+pub mod Laws

@@ -1,0 +1,5 @@
+pub mod Apart
+pub mod Runs
+pub mod Messages
+pub mod Turns
+pub mod Closes

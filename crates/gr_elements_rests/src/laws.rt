@@ -1,0 +1,7 @@
+//! The law, the contract of a function that does nothing.
+ghost use Rattle.gr_elements_rests.specs.Laws as laws;
+
+/// While no turn is out, vectors rest.
+pub fn vectors_rest()
+    ensures { laws.RestsAreFound }
+{}
