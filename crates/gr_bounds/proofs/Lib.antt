@@ -1,0 +1,5 @@
+pub mod Events
+pub mod Steps
+pub mod Shares
+pub mod Opening
+pub mod Measures

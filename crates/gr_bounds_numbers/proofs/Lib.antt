@@ -1,0 +1,5 @@
+pub mod Plain
+pub mod Rows
+pub mod Counting
+pub mod Grows
+pub mod Ones

@@ -1,0 +1,3 @@
+pub mod Standing
+pub mod Loops
+pub mod Telling

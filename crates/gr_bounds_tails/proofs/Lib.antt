@@ -1,0 +1,4 @@
+pub mod Quiet
+pub mod Lines
+pub mod Tails
+pub mod Grants
