@@ -1,4 +1,3 @@
 pub mod Merges
-pub mod Sames
 pub mod Gathers
 pub mod Together

@@ -3,5 +3,3 @@ pub mod Showing
 pub mod Ends
 pub mod Gathered
 pub mod Laws
--- For proofs and private functions.
-pub mod SameWords

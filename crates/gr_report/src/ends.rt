@@ -13,34 +13,6 @@ pub struct LimitAt {
     pub clock: u64,
 }
 
-fn limit_of(events: u64, end: &CoreEnd) -> Option<LimitAt>
-    ensures { result ≡ spec.limit_of events end.now }
-{
-    if events <= end.clock {
-        Some(LimitAt {
-            core: end.core,
-            clock: end.clock,
-        })
-    } else {
-        None
-    }
-}
-
-/// The first of the cores whose clock came to this limit of events.
-#[tactic(auto, unfolding(crate::specs::Ends::first_limit))]
-pub fn first_limit(events: u64, ends: &[CoreEnd]) -> Option<LimitAt>
-    ensures { result ≡ spec.first_limit events ends.now }
-{
-    for end in ends {
-        let found = limit_of(events, end);
-        match found {
-            Some(limit) => return Some(limit),
-            None => {}
-        }
-    }
-    None
-}
-
 /// Adds the line that tells of a core that came to the limit of events. An error is want of memory.
 pub fn write_limit(text: &mut String, at: LimitAt) -> Result<(), AllocError>
     ensures { OnOk result (string_bytes text.new ≡ string_bytes text.old ++ spec.limit_text at) }

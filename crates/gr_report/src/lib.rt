@@ -5,14 +5,12 @@ mod ends;
 mod gathering;
 mod laws;
 mod merging;
-mod same;
 mod showing;
 mod texts;
 
-pub use ends::{LimitAt, counts_text, first_limit, write_limit};
+pub use ends::{LimitAt, counts_text, write_limit};
 pub use gathering::contents;
 pub use gr_memory::{Content, Contents};
 pub use laws::cores_hold_together;
-pub use same::equal;
 pub use showing::show_text;
 pub use texts::{TrapAt, first_trap, prints, write_trap};

@@ -20,7 +20,7 @@ use Rattle.gr_fits.specs.Reached.{IsReached, RunsAccepted}
 use Rattle.gr_fits.proofs.Reached.{entries_reach}
 use Rattle.gr_fits_objects.proofs.Few.{heap_apart}
 use Rattle.gr_stands_parts.specs.Stages.{Stage, ran, served, ended, gave, closed, asked, moved, IsMade}
-use Rattle.gr_stands_parts.specs.Premises.{StagesKeepLines, StagesKeepTurns, StagesKeepElements}
+use Rattle.gr_stands_parts.specs.Keeping.{StagesKeepLines, StagesKeepTurns, StagesKeepElements}
 
 pub heap_is_no_vector : (given : Given) → RunsAccepted given → HeapIsNoVector given
 heap_is_no_vector given ok = ap is_vector (heap_apart given ok.accepted)

@@ -23,7 +23,7 @@ use Rattle.gr_elements_lines.proofs.Words as words
 use Rattle.gr_fits.specs.Reached.{RunsAccepted}
 use Rattle.gr_fits_objects.proofs.Few.{heap_apart}
 use Rattle.gr_stands_parts.specs.Stages.{ran, served, ended, gave, closed, asked, moved}
-use Rattle.gr_stands_parts.specs.Premises.{StagesKeepBatches, StagesKeepLists}
+use Rattle.gr_stands_parts.specs.Keeping.{StagesKeepBatches, StagesKeepLists}
 
 -- ---- batches
 

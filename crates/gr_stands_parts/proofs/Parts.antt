@@ -26,7 +26,7 @@ use Rattle.gr_shares_steps.proofs.Steps.{openings_have_work}
 use Rattle.gr_bounds_tells.proofs.Runs.{runs_drop_nothing}
 use Rattle.gr_stands_parts.specs.Stages.{Stage, ran, served, ended, gave, closed, asked, moved, is_last, sent_then, ends_then, words_then}
 use Rattle.gr_stands_parts.specs.Parts.{PartsStand, BoundsAfter, PartsRest, PartsGoOn, HasRoom}
-use Rattle.gr_stands_parts.specs.Premises.{StageStands}
+use Rattle.gr_stands_parts.specs.Keeping.{StageStands}
 use Rattle.gr_stands_parts.specs.Laws as laws
 use Rattle.gr_stands_parts.proofs.Kept.{reached, lines, turns, elements}
 use Rattle.gr_stands_parts.proofs.Work.{scopes, work}

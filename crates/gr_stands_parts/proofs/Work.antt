@@ -13,7 +13,7 @@ use Rattle.gr_fits.specs.Reached.{RunsAccepted}
 use Rattle.gr_fits_words.specs.Literals.{LiteralsFit}
 use Rattle.gr_fits.proofs.Reached.{states_valid}
 use Rattle.gr_stands_parts.specs.Stages.{ran, served, ended, gave, closed, asked, moved}
-use Rattle.gr_stands_parts.specs.Premises.{StagesKeepScopes, StagesKeepWork}
+use Rattle.gr_stands_parts.specs.Keeping.{StagesKeepScopes, StagesKeepWork}
 use Rattle.gr_stands_parts.proofs.Told.{others}
 
 module _ (given : Given) (sound : IsSound given) (accepted : RunsAccepted given) (literals : LiteralsFit given.program) where

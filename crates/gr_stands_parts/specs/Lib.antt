@@ -1,4 +1,4 @@
 pub mod Stages
 pub mod Parts
-pub mod Premises
+pub mod Keeping
 pub mod Laws

@@ -4,5 +4,4 @@ pub mod Pairs
 pub mod Apart
 pub mod Opens
 pub mod Matches
-pub mod Sent
 pub mod Runs

@@ -22,11 +22,11 @@ use Rattle.gr_world.specs.Laws.{EndsAreRuns}
 use Rattle.gr_world.specs.Worlds.{AreEnds, slot_of_main}
 
 -- The end of the core of this number: one of these, or that of a core that made no event.
-abbrev an_end : List CoreEnd → ℕ → End
+abbrev pub an_end : List CoreEnd → ℕ → End
 an_end ends core = machines.end_of (map (λ end. end_in end) ends) core
 
 module _ (unused : UnusedCoresRun) (machine : Machine) (ends : List CoreEnd) (are : AreEnds machine ends) where
-  within_is : (core : ℕ) (default : CoreEnd) → core < length ends → an_end ends core ≡ end_in (slice_index_or ends core default)
+  pub within_is : (core : ℕ) (default : CoreEnd) → core < length ends → an_end ends core ≡ end_in (slice_index_or ends core default)
   within_is core default within = get_or-map (λ (end : CoreEnd). end_in end) ends core default (unused_end core) within
 
   beyond_is : (core : ℕ) → length ends ≤ core → an_end ends core ≡ unused_end core
@@ -40,10 +40,10 @@ module _ (unused : UnusedCoresRun) (machine : Machine) (ends : List CoreEnd) (ar
     | inr g ↦ subst (P core) (sym (beyond_is core g)) (there core g)
   ]
 
-  numbered : (core : ℕ) → (an_end ends core).core ≡ core
+  pub numbered : (core : ℕ) → (an_end ends core).core ≡ core
   numbered = everywhere (λ core end. end.core ≡ core) are.number (λ core beyond. refl)
 
-  runs : (core : ℕ) → IsLocalRun machine (an_end ends core)
+  pub runs : (core : ℕ) → IsLocalRun machine (an_end ends core)
   runs = everywhere (λ core end. IsLocalRun machine end) are.local (λ core beyond. unused machine core)
 
   left_over : {X : Type 0} (sent received rest : List X) → sent ≡ received ++ rest → sent ≡ received ++ drop (length received) sent
@@ -54,7 +54,7 @@ module _ (unused : UnusedCoresRun) (machine : Machine) (ends : List CoreEnd) (ar
       let others : sent ≡ received ++ rest = cc in
       ap (λ z. z ∷ sent) first ∙ ap (λ zs. x ∷ zs) (left_over sent received rest others)
 
-  abbrev left : ℕ → ℕ → List Packet
+  abbrev pub left : ℕ → ℕ → List Packet
   left from to = drop (length ((an_end ends to).received from)) ((an_end ends from).sent to)
 
   abbrev Matches : ℕ → ℕ → End → End → Type 0
@@ -75,11 +75,11 @@ module _ (unused : UnusedCoresRun) (machine : Machine) (ends : List CoreEnd) (ar
       (λ core default there. nothing from core (unused_end from) (end_in (slice_index_or ends core default)) refl (are.within core from default there beyond).1)
       (λ core others. refl) to
 
-  matched : IsMatched (λ core. (an_end ends core).sent) (λ core. (an_end ends core).received) left
+  pub matched : IsMatched (λ core. (an_end ends core).sent) (λ core. (an_end ends core).received) left
   matched from to = everywhere (λ core one. Matches core to one (an_end ends to)) (λ core default within. within_matched core to default within)
       (λ core beyond. beyond_matched core to beyond) from
 
-slot_is : (ends : List CoreEnd) → slot_of_main ends ≡ (an_end ends 0).first
+pub slot_is : (ends : List CoreEnd) → slot_of_main ends ≡ (an_end ends 0).first
 slot_is [] = refl
 slot_is (end ∷ ends) = refl
 

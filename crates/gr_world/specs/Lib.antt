@@ -2,4 +2,3 @@ pub mod Worlds
 pub mod Laws
 -- For proofs and private functions.
 pub mod MeetingWords
-pub mod HistoryWords

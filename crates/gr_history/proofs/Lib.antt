@@ -1,0 +1,5 @@
+pub mod Sent
+mod Limits
+mod Bodies
+mod Ends
+pub mod Agreeing

@@ -1,0 +1,5 @@
+pub mod Agreeing
+pub mod Laws
+-- For proofs and private functions.
+pub mod HistoryWords
+pub mod EndWords
