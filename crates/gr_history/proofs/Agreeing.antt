@@ -35,9 +35,7 @@ use Rattle.gr_report.specs.Texts.{first_trap}
 use Rattle.gr_stands.specs.Worlds.{Given, machine_in, bodies}
 use Rattle.gr_stands.specs.Stands.{IsSound}
 use Rattle.gr_stands_contents.specs.Rests.{HaveBodies, VectorsRest}
-use Rattle.gr_stands_histories.specs.Running.{AllSlotsFit}
-use Rattle.gr_stands_histories.specs.Invariants.{RunHolds}
-use Rattle.gr_stands_parts.specs.Parts.{PartsRest}
+use Rattle.gr_stands_legal.specs.Holding.{EndHolds}
 use Rattle.gr_stands_rests.specs.Laws.{PassedRunsRest, RunsPutAsPlanned}
 use Rattle.gr_stands_stops.specs.Laws.{ScopesStandInRuns, StopsTellInRuns}
 use Rattle.gr_stands_stops.specs.Stops.{HasScopes, StopsTell}
@@ -57,7 +55,7 @@ module _ (unused : UnusedCoresRun) (merges : RunsMerge) (contents : ContentsStan
   sound : IsSound given
   sound = sounds given is
 
-  run : RunHolds given (PartsRest given) world
+  run : EndHolds given world
   run = holds given is runnable (slot_of_main ends) (steps_of ends) world low (fits setup program (slot_of_main ends) (steps_of ends)).1 leads.run
 
   stands : EndStands given world run.state
@@ -68,7 +66,7 @@ module _ (unused : UnusedCoresRun) (merges : RunsMerge) (contents : ContentsStan
 
   scopes : ScopesStandInRuns given
   scopes slot steps end here all goes =
-      let found : RunHolds given (PartsRest given) end = holds given is runnable slot steps end here all goes in
+      let found : EndHolds given end = holds given is runnable slot steps end here all goes in
       record { names = found.holds.names; state = found.state; stands = found.holds.scopes }
 
   stops : StopsTell given (world_in world) entries
