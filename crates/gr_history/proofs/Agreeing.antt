@@ -59,7 +59,7 @@ module _ (unused : UnusedCoresRun) (merges : RunsMerge) (contents : ContentsStan
   run = holds given is runnable (slot_of_main ends) (steps_of ends) world low (fits setup program (slot_of_main ends) (steps_of ends)).1 leads.run
 
   stands : EndStands given world run.state
-  stands = record { leads = run.leads; words = run.stands.stands.words; passed = run.holds.scopes.passed }
+  stands = record { leads = run.leads; words = run.stands.stands.words; passed = run.holds.scopes.root.passed }
 
   had : HaveStates cores world
   had = have_states unused merges (machine_of setup program) cores ends are of fit world leads.run
