@@ -1,0 +1,4 @@
+pub mod Vectors
+pub mod Finding
+pub mod Releasing
+pub mod Laws
