@@ -1,24 +1,39 @@
--- The law of vectors of which no turn is out.
-use Rattle.std.specs.Prelude.{◌≡◌, ℕ, List, true}
+-- The law of vectors whose turns have no calls.
+use Rattle.std.specs.Prelude.{◌≡◌, ◌==◌, ◌<◌, ℕ, List, [], true, Some}
+use Rattle.std.specs.List.{list_any}
 use Rattle.gr_lang.specs.States.{State}
 use Rattle.gr_vector.specs.declared.ends.Ends.{Ends}
+use Rattle.gr_vector.specs.Plans.{plan_of}
 use Rattle.gr_machine.specs.Machines.{thing}
+use Rattle.gr_machine.specs.States.{Turn}
 use Rattle.gr_machine.specs.Openings.{is_vector}
 use Rattle.gr_stands.specs.Worlds.{Given, machine_in, World, bodies}
 use Rattle.gr_stands.specs.Stands.{Stands}
 use Rattle.gr_stands_contents.specs.Rests.{VectorsRest}
 use Rattle.gr_lines.specs.Waiting.{LinesStand}
-use Rattle.gr_lines_turns.specs.Tokens.{turn_at}
+use Rattle.gr_lines_turns.specs.Tokens.{vector_at, TurnsStand}
 use Rattle.gr_elements_lines.specs.Lines.{HasLines}
 use Rattle.gr_elements_steps.specs.Behind.{ElementsHold}
 
--- No core has a turn of a vector.
-abbrev pub NoTurnIsOut : Given → World → Type 0
-NoTurnIsOut given world = (number core : ℕ) → is_vector (thing (machine_in given) number) ≡ true → turn_at number (bodies world) core ≡ 0
+-- Each turn that a core has of a vector has no calls.
+abbrev pub NoTurnHasCalls : Given → World → Type 0
+NoTurnHasCalls given world =
+    (number core : ℕ) (turn : Turn) → is_vector (thing (machine_in given) number) ≡ true
+    → (vector_at number (bodies world) core).turn ≡ Some turn → turn.calls ≡ []
 
--- Then each word of each vector is at its home.
+-- A turn still puts words only at positions where the plan of its calls puts some.
+abbrev pub PutsAsPlanned : Turn → Type 0
+PutsAsPlanned turn =
+    (position : ℕ) → turn.puts position ≡ true → list_any (λ pair. pair.0 == position) (plan_of turn.calls turn.ends.head turn.ends.tail).puts ≡ true
+
+-- So does each turn of a vector.
+abbrev pub TurnsPutAsPlanned : Given → World → Type 0
+TurnsPutAsPlanned given world =
+    (number core : ℕ) (turn : Turn) → core < given.setup.cores → (vector_at number (bodies world) core).turn ≡ Some turn → PutsAsPlanned turn
+
+-- Where turns have no calls, each word of each vector is at its home.
 abbrev pub RestsAreFound : Type 0
 RestsAreFound =
     (given : Given) (world : World) (state : State) (ends : ℕ → Ends) (words : ℕ → List ℕ)
-    → Stands given world state → LinesStand given world → ElementsHold given world ends words → HasLines given state words → NoTurnIsOut given world
-    → VectorsRest given (bodies world) state.objects
+    → Stands given world state → LinesStand given world → TurnsStand given world ends → ElementsHold given world ends words → HasLines given state words
+    → TurnsPutAsPlanned given world → NoTurnHasCalls given world → VectorsRest given (bodies world) state.objects

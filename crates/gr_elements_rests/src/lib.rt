@@ -1,4 +1,4 @@
-//! Where no turn of a vector is out, each of its words is at the home of its position.
+//! Where each turn of a vector that is out has no calls, each of its words is at the home of its position.
 #![tactic(auto)]
 
 mod laws;

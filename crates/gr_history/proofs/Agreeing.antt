@@ -1,5 +1,5 @@
 -- A run of a program: its world stands for the plain state after its history, and the cores say of its end what that does.
-use Rattle.std.proofs.Common.{◌≡◌, ◌<◌, ℕ, true, List, length, slice_index_or, Some, ap, ◌∙◌, sym, refl, subst}
+use Rattle.std.proofs.Common.{◌≡◌, ◌<◌, true, List, ap, ◌∙◌, sym, subst}
 use Rattle.gr_syntax.specs.declared.syntax.Program.{Program}
 use Rattle.gr_code.specs.Shapes.{shapes_of}
 use Rattle.gr_lang.specs.declared.action.Entry.{Entry}
@@ -7,7 +7,6 @@ use Rattle.gr_lang.specs.Histories.{final}
 use Rattle.gr_machine.specs.declared.core_end.CoreEnd.{CoreEnd}
 use Rattle.gr_machine.specs.declared.setup.Setup.{Setup}
 use Rattle.gr_machine.specs.GlobalRuns as runs
-use Rattle.gr_machine.specs.Histories.{history_of}
 use Rattle.gr_machine.specs.Laws.{RunsMerge, UnusedCoresRun}
 use Rattle.gr_machine.specs.Machines.{machine_of}
 use Rattle.gr_machine.specs.Nets.{world_in}
@@ -20,7 +19,7 @@ use Rattle.gr_report.specs.Gathered.{AreGathered}
 use Rattle.gr_round.specs.declared.outcomes.Outcome.{Outcome}
 use Rattle.gr_round.specs.declared.outcomes.Outcome.TheVariants as how
 use Rattle.gr_round.specs.Outcomes.{Concluded}
-use Rattle.gr_world.specs.Worlds.{AreCores, AreEnds, AreEndsOf, IsHistoryOf, slot_of_main, steps_of}
+use Rattle.gr_world.specs.Worlds.{AreCores, AreEnds, AreEndsOf, slot_of_main, steps_of}
 use Rattle.gr_runnable.specs.Runnable.{IsRunnable}
 use Rattle.gr_stands_contents.specs.Laws.{ContentsStand}
 use Rattle.gr_history.specs.Agreeing.{EndsAgree}
@@ -28,17 +27,14 @@ use Rattle.gr_history.specs.EndWords.{LeadsTo, EndStands, HaveStates}
 use Rattle.gr_history.specs.Laws as laws
 use Rattle.gr_history.proofs.Bodies.{have_states, world_led}
 use Rattle.gr_history.proofs.Ends.{agree, some_passed}
-use Rattle.gr_lang.specs.States.{State}
 use Rattle.gr_machine.specs.GlobalRuns.{Step, global_run}
-use Rattle.gr_report.specs.Ends.{first_limit}
-use Rattle.gr_report.specs.Texts.{first_trap}
-use Rattle.gr_stands.specs.Worlds.{Given, machine_in, bodies}
+use Rattle.gr_stands.specs.Worlds.{Given, bodies}
 use Rattle.gr_stands.specs.Stands.{IsSound}
 use Rattle.gr_stands_contents.specs.Rests.{HaveBodies, VectorsRest}
 use Rattle.gr_stands_legal.specs.Holding.{EndHolds}
 use Rattle.gr_stands_rests.specs.Laws.{PassedRunsRest, RunsPutAsPlanned}
 use Rattle.gr_stands_stops.specs.Laws.{ScopesStandInRuns, StopsTellInRuns}
-use Rattle.gr_stands_stops.specs.Stops.{HasScopes, StopsTell}
+use Rattle.gr_stands_stops.specs.Stops.{StopsTell}
 use Rattle.gr_stands_legal.specs.Laws.{SetupsAreSound, SlotsOfRunsFit, GivenRunsHold}
 use Rattle.gr_stands_legal.specs.Slots.{given_for}
 

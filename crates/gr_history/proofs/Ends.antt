@@ -3,7 +3,6 @@ use Rattle.std.proofs.Common.{◌≡◌, ◌<◌, ℕ, true, false, List, length
 use Rattle.std.specs.Prelude.{nat_le}
 use Rattle.gr_mail.proofs.Grids.{some_item}
 use Rattle.gr_lang.specs.declared.action.Entry.{Entry}
-use Rattle.gr_lang.specs.Histories.{final}
 use Rattle.gr_lang.specs.States.{State}
 use Rattle.gr_machine.specs.declared.core_end.CoreEnd.{CoreEnd}
 use Rattle.gr_machine.specs.GlobalRuns as runs
@@ -24,7 +23,6 @@ use Rattle.gr_round.specs.Outcomes.{Concluded, SomeIs, NoneIs, IsFirstSpent, has
 use Rattle.gr_world.specs.Worlds.{AreCores, AreEndsOf}
 use Rattle.gr_stands.specs.Worlds.{Given, machine_in, bodies}
 use Rattle.gr_stands.specs.Stands.{IsSound}
-use Rattle.gr_stands_contents.specs.Laws.{ContentsStand}
 use Rattle.gr_stands_stops.specs.Stops.{StopsTell}
 use Rattle.gr_history.specs.Agreeing.{Agrees}
 use Rattle.gr_history.specs.EndWords.{EndStands, HaveStates}
@@ -102,4 +100,3 @@ module _ (given : Given) (cores : List Core) (ends : List CoreEnd) (entries : Li
   agree how.Trapped gathered some held = (none_passed some.0, some_trapped some.1)
   agree (how.EventLimit core clock) gathered some held = (none_passed some.0, none_trapped some.1, first_spent core clock some.2)
   agree how.Stalled gathered some held = (none_passed some.going.passed, none_trapped some.going.trapped, none_spent some.going.spent)
-
