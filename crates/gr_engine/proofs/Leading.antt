@@ -1,6 +1,5 @@
 -- What a run that was made leaves.
-use Rattle.std.proofs.Common.{◌≡◌, List, Option, Some, None, refl, sym, ap, ◌∙◌, subst}
-use Rattle.std.specs.Prelude.{IfSome}
+use Rattle.std.proofs.Common.{◌≡◌, List, refl, sym, ap, ◌∙◌, subst}
 use Rattle.gr_syntax.specs.declared.syntax.Program.{Program}
 use Rattle.gr_lang.specs.declared.action.Entry.{Entry}
 use Rattle.gr_code.specs.Shapes.{shapes_of}
@@ -19,7 +18,8 @@ use Rattle.gr_engine.specs.declared.ending.Ending.TheVariants as ending
 use Rattle.gr_engine.specs.declared.ending.Ran.{Ran}
 use Rattle.gr_engine.specs.declared.ending.WorldEnd.{WorldEnd}
 use Rattle.gr_engine.specs.Ends.{Ended, IsEnding, ended_as, stalled}
-use Rattle.gr_engine.specs.Runs.{AreStuck, IsRunTo}
+use Rattle.gr_engine.specs.EndingWords.{IsRunTo}
+use Rattle.gr_engine.specs.Runs.{AreStuck}
 use Rattle.gr_engine.proofs.Stuck.{are_stuck}
 
 pub of_one_run : (machine : Machine) (cores : List Core) → AreCores machine cores → AreOfOneRun cores
@@ -51,17 +51,15 @@ stalled_end (ending.Complete contents) ended h e = absurd (subst (IsEnding (endi
 stalled_end (ending.Trapped trap) ended h e = absurd (subst (IsEnding (ending.Trapped trap)) e h)
 stalled_end (ending.Limited at) ended h e = absurd (subst (IsEnding (ending.Limited at)) e h)
 
-pub run_stuck : (setup : Setup) (p : Program) (outcome : Outcome) (gathered : List Content) (world : WorldEnd) (what : Ending) → IsRunTo setup p outcome gathered world
+run_stuck : (setup : Setup) (p : Program) (outcome : Outcome) (gathered : List Content) (world : WorldEnd) (what : Ending) → IsRunTo setup p outcome gathered world
     → IsEnding what (ended_as setup p world) → (what ≡ ending.Stalled → outcome ≡ how.Stalled) → ended_as setup p world ≡ stalled
     → AreStuck (machine_of setup p) world.cores
 run_stuck setup p outcome gathered world what run ends only e =
     are_stuck (machine_of setup p) run.cores world.cores run.are run.ends
     (subst (λ (x : Outcome). Concluded x run.cores) (only (stalled_end what (ended_as setup p world) ends e)) run.concluded)
 
-pub found_stuck : (setup : Setup) (p : Program) (outcome : Outcome) (gathered : List Content) (world : WorldEnd) (found : Option Ran) → IsRunTo setup p outcome gathered world
-    → IfSome found (λ ran. ran.world ≡ world) → IfSome found (λ ran. IsEnding ran.ending (ended_as setup p world)) → IfSome found (λ ran. ran.ending ≡ ending.Stalled → outcome ≡ how.Stalled)
-    → IfSome found (λ ran. ended_as setup p ran.world ≡ stalled → AreStuck (machine_of setup p) ran.world.cores)
-found_stuck setup p outcome gathered world None run same ends only = tt
-found_stuck setup p outcome gathered world (Some ran) run same ends only = λ e.
+pub ran_stuck : (setup : Setup) (p : Program) (outcome : Outcome) (gathered : List Content) (world : WorldEnd) (ran : Ran) → IsRunTo setup p outcome gathered world → ran.world ≡ world
+    → IsEnding ran.ending (ended_as setup p world) → (ran.ending ≡ ending.Stalled → outcome ≡ how.Stalled) → ended_as setup p ran.world ≡ stalled → AreStuck (machine_of setup p) ran.world.cores
+ran_stuck setup p outcome gathered world ran run same ends only e =
     subst (λ (w : WorldEnd). AreStuck (machine_of setup p) w.cores) (sym same)
     (run_stuck setup p outcome gathered world ran.ending run ends only (ap (λ (w : WorldEnd). ended_as setup p w) (sym same) ∙ e))

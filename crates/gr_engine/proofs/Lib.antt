@@ -1,4 +1,3 @@
-pub mod Progress
 pub mod Stuck
-pub mod Judging
 pub mod Leading
+pub mod Agreeing

@@ -26,7 +26,7 @@ pub enum Ending {
     Stalled,
 }
 
-/// A run whose history is one of the plain memory.
+/// A run that has ended.
 #[derive(Drop)]
 pub struct Ran {
     pub world: WorldEnd,

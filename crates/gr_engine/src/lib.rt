@@ -1,7 +1,6 @@
-//! The run of a program on worker threads, and what one plain memory makes of its history.
+//! The run of a program on worker threads, and how it ended.
 #![tactic(auto)]
 
-mod certifying;
 mod ending;
 mod making;
 mod running;

@@ -3,18 +3,19 @@ ghost use Rattle.std.specs.Prelude.{◌≡◌, ◌≤◌, IfOk};
 ghost use Rattle.gr_code.specs.Shapes.{shapes_of};
 ghost use Rattle.gr_posts.specs.Posts.{IsSetup};
 ghost use Rattle.gr_report.specs.Gathered.{AreGathered};
-ghost use Rattle.gr_engine.specs.Runs.{IsRunTo};
+ghost use Rattle.gr_engine.specs.EndingWords.{IsRunTo};
 
 use crate::ending::WorldEnd;
 use gr_accept::Accepted;
 use gr_code::{Code, lower};
 use gr_core::Core;
+use gr_history::history;
 use gr_machine::Setup;
 use gr_memory::Contents;
 use gr_reduce::Reducers;
 use gr_report::contents;
 use gr_round::{Gate, Outcome, run};
-use gr_world::{finish, history, start};
+use gr_world::{finish, start};
 use std::alloc::{AllocError, Global};
 use std::thread::Threads;
 
