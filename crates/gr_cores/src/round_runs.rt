@@ -9,10 +9,10 @@ use crate::verdicts::verdict;
 use crate::world::World;
 use gr_accept::Accepted;
 use gr_code::Code;
+use gr_history::history;
 use gr_lang::{Entry, History, Op};
 use gr_machine::CoreEnd;
 use gr_reduce::Reducers;
-use gr_world::history;
 use std::alloc::{AllocError, Global};
 
 /// What a run in rounds has come to: why it ended, its events, what stands in its objects, and what its cores left.

@@ -8,10 +8,10 @@ use crate::verdicts::verdict;
 use crate::world::{Made, World};
 use gr_accept::Accepted;
 use gr_code::Code;
+use gr_history::history;
 use gr_lang::History;
 use gr_machine::CoreEnd;
 use gr_reduce::Reducers;
-use gr_world::history;
 use std::alloc::{AllocError, Global};
 
 /// A step, or a line in its place.

@@ -14,7 +14,7 @@ use Rattle.gr_replay.specs.Judged as verdict
 use Rattle.gr_top.specs.Readings.{FitsLimit, ReadsAs, ReplaysAs, IsDue}
 use Rattle.gr_top.specs.Due.{accepted, refused, bad_line, judged, Due, Came}
 use Rattle.gr_top.specs.Commands.{asked, is_on_text, limit_of, is_run, text_of}
-use Rattle.gr_top.specs.Promises.{status_of, EndedWell, IsRunStatus, UncertifiedWhere, Answered, IsWorldOf, Refusing}
+use Rattle.gr_top.specs.Promises.{status_of, EndedWell, IsRunStatus, Answered, IsWorldOf, Refusing}
 use Rattle.gr_top.specs.AnswerView.{made}
 use Rattle.gr_top.specs.declared.answer.Answer.{Answer}
 use Rattle.gr_top.specs.declared.answer.Refusal.{Refusal}
@@ -76,9 +76,6 @@ module _ (words : List (String Global)) (a : Answer) (before now : Option (List 
         passed = e.passed;
         written = subst (Appends before now) e.text x.1;
       }
-
-  pub uncertified_of : (bytes : List ℕ) → UncertifiedWhere words a.refusal bytes → UncertifiedWhere words refusal bytes
-  uncertified_of bytes h e = h (sym (mine 12 (ap status_of e) (λ k. omega (arith, k))).0 ∙ e)
 
   -- Where the sink didn't fail, the refusal is the answer's own.
   unless : ((written : ℕ) → refusal ≢ r.WriteFault written) → refusal ≡ a.refusal

@@ -9,13 +9,10 @@ use Rattle.gr_cli.specs.declared.settings.Command.{Command}
 use Rattle.gr_cli.specs.declared.settings.Command.TheVariants.{Run, Check, Replay, Bench}
 use Rattle.gr_replay.specs.Division.{program_part, history_part}
 use Rattle.gr_gen.specs.Programs.{bench_text}
-use Rattle.gr_replay.specs.Judged.{Verdict}
-use Rattle.gr_replay.specs.Judged as verdict
-use Rattle.gr_engine.specs.Runs.{IsUncertified}
 use Rattle.gr_top.specs.Readings.{ReadsAs, ReplaysAs, IsDue, FitsLimit}
-use Rattle.gr_top.specs.Due.{Reading, accepted, Replayed, unread, bad_line, judged, Due, due_usage, due_too_long, due_read, due_judged, due_replayed, Came}
-use Rattle.gr_top.specs.Commands.{asked, is_on_text, is_replay, is_read, limit_of, setup_of, text_of}
-use Rattle.gr_top.specs.Promises.{UncertifiedWhere, Answered, IsRunOf, IsWorldOf}
+use Rattle.gr_top.specs.Due.{Reading, accepted, Replayed, Due, due_usage, due_too_long, due_read, due_replayed, Came}
+use Rattle.gr_top.specs.Commands.{asked, is_on_text, is_replay, is_read, limit_of, text_of}
+use Rattle.gr_top.specs.Promises.{Answered, IsRunOf, IsWorldOf}
 use Rattle.gr_top.specs.Texts.{usage_text, too_long_text}
 use Rattle.gr_top.specs.AnswerView.{made}
 use Rattle.gr_top.specs.declared.answer.Answer.{Answer}
@@ -48,8 +45,8 @@ made_too_long words bytes a o some reads more x y z =
     subst (λ (d : Due). IsDue words bytes a.world d) (sym (is_made a due_too_long x y (ap is_some z))) (IsDue.too_long o some reads more)
 
 pub made_on_text : (words : List (String Global)) (bytes : List ℕ) (a : Answer) (o : Options) → asked words ≡ Some o → is_on_text o.command ≡ true → FitsLimit o bytes
-    → ((reading : Reading) × ReadsAs (text_of o bytes) reading × (made a ≡ due_read o reading a.world)) → IsDue words bytes a.world (made a)
-made_on_text words bytes a o some on fits h = subst (λ (d : Due). IsDue words bytes a.world d) (sym h.2) (IsDue.read o some on fits h.1)
+    → ((reading : Reading) × ReadsAs (text_of o bytes) reading × (due_read o reading a.world ≡ Some (made a))) → IsDue words bytes a.world (made a)
+made_on_text words bytes a o some on fits h = IsDue.read o some on fits h.1 h.2
 
 -- A command that reads the source is on what that holds; a bench is on its own text.
 source_text : (o : Options) (bytes : List ℕ) → is_read o.command ≡ true → bytes ≡ text_of o bytes
@@ -59,7 +56,7 @@ bench_text_of : (o : Options) (bytes : List ℕ) → is_read o.command ≡ false
 bench_text_of o bytes own = rw own refl
 
 pub made_read : (words : List (String Global)) (bytes : List ℕ) (a : Answer) (o : Options) → asked words ≡ Some o → is_read o.command ≡ true → is_on_text o.command ≡ true
-    → length bytes ≤ limit_of o.command → ((reading : Reading) × ReadsAs bytes reading × (made a ≡ due_read o reading a.world)) → IsDue words bytes a.world (made a)
+    → length bytes ≤ limit_of o.command → ((reading : Reading) × ReadsAs bytes reading × (due_read o reading a.world ≡ Some (made a))) → IsDue words bytes a.world (made a)
 made_read words bytes a o some reads on few h =
     made_on_text words bytes a o some on (λ k. few) (h.0, subst (λ (text : List ℕ). ReadsAs text h.0) (source_text o bytes reads) h.1, h.2)
 
@@ -71,7 +68,7 @@ never_read : (o : Options) (bytes : List ℕ) → is_read o.command ≡ false �
 never_read o bytes own reads = let k : false ≡ true = sym own ∙ reads in cc
 
 pub made_bench : (words : List (String Global)) (bytes : List ℕ) (a : Answer) (o : Options) → asked words ≡ Some o → is_read o.command ≡ false
-    → ((reading : Reading) × ReadsAs (bench_text o.kind o.size o.seed) reading × (made a ≡ due_read o reading a.world)) → IsDue words bytes a.world (made a)
+    → ((reading : Reading) × ReadsAs (bench_text o.kind o.size o.seed) reading × (due_read o reading a.world ≡ Some (made a))) → IsDue words bytes a.world (made a)
 made_bench words bytes a o some own h =
     made_on_text words bytes a o some (bench_is_on_text o.command own) (never_read o bytes own) (h.0, subst (λ (text : List ℕ). ReadsAs text h.0) (bench_text_of o bytes own) h.1, h.2)
 
@@ -103,31 +100,6 @@ pub bench_world : (words : List (String Global)) (bytes : List ℕ) (world : Opt
     → IfSome world (λ w. (p : Program) × ReadsAs (bench_text o.kind o.size o.seed) (accepted p) × IsRunOf o p w) → IsWorldOf words bytes world
 bench_world words bytes world o some own h = made_world words bytes world o some (subst (WorldFrom o world) (bench_text_of o bytes own) h)
 
--- The same of a run that isn't certified.
-pub read_uncertified : (words : List (String Global)) (bytes : List ℕ) (refusal : Refusal) (o : Options) → asked words ≡ Some o → is_read o.command ≡ true
-    → (refusal ≡ r.Uncertified → (p : Program) × ReadsAs bytes (accepted p) × IsUncertified (setup_of o) p) → UncertifiedWhere words refusal bytes
-read_uncertified words bytes refusal o some reads h e =
-    let k = h e in (o, k.0, some, subst (λ (text : List ℕ). ReadsAs text (accepted k.0)) (source_text o bytes reads) k.1, k.2)
-
-pub bench_uncertified : (words : List (String Global)) (bytes : List ℕ) (refusal : Refusal) (o : Options) → asked words ≡ Some o → is_read o.command ≡ false
-    → (refusal ≡ r.Uncertified → (p : Program) × ReadsAs (bench_text o.kind o.size o.seed) (accepted p) × IsUncertified (setup_of o) p) → UncertifiedWhere words refusal bytes
-bench_uncertified words bytes refusal o some own h e =
-    let k = h e in (o, k.0, some, subst (λ (text : List ℕ). ReadsAs text (accepted k.0)) (bench_text_of o bytes own) k.1, k.2)
-
--- A replay is never said not to be certified.
-judged_certified : (v : Verdict) → (due_judged v).refusal ≡ r.Uncertified → ⊥
-judged_certified (verdict.legal b) e = cc
-judged_certified (verdict.not_legal n) e = cc
-
-replay_certified : (found : Replayed) → (due_replayed found).refusal ≡ r.Uncertified → ⊥
-replay_certified (unread f) e = cc
-replay_certified (bad_line n) e = cc
-replay_certified (judged v) e = judged_certified v e
-
-pub replayed_uncertified : (words : List (String Global)) (bytes : List ℕ) (a : Answer)
-    → ((found : Replayed) × ReplaysAs (program_part bytes) (history_part bytes) found × (made a ≡ due_replayed found)) → UncertifiedWhere words a.refusal bytes
-replayed_uncertified words bytes a h e = absurd (replay_certified h.0 (ap (λ (d : Due). d.refusal) (sym h.2) ∙ e))
-
 -- ---- what came of it
 
 pub answered : (words : List (String Global)) (bytes : List ℕ) (before now : Option (List ℕ)) (refusal : Refusal) (world : Option WorldEnd) (d : Due)
@@ -144,7 +116,6 @@ answered words bytes before now (r.NotLegal entry) world d h came a b = (d, h, c
 answered words bytes before now (r.BadLine line) world d h came a b = (d, h, came)
 answered words bytes before now (r.EventLimit core clock) world d h came a b = (d, h, came)
 answered words bytes before now r.Stalled world d h came a b = (d, h, came)
-answered words bytes before now r.Uncertified world d h came a b = (d, h, came)
 
 -- The refusal is the answer's own, unless the sink failed.
 pub own : (d : Due) (before now : Option (List ℕ)) (refusal : Refusal) (world : Option WorldEnd) → Came d before now refusal world
@@ -161,4 +132,3 @@ own d before now (r.NotLegal entry) world h other = h
 own d before now (r.BadLine line) world h other = h
 own d before now (r.EventLimit core clock) world h other = h
 own d before now r.Stalled world h other = h
-own d before now r.Uncertified world h other = h

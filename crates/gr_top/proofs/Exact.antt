@@ -14,14 +14,16 @@ use Rattle.gr_replay.specs.Judged as verdict
 use Rattle.gr_gen.specs.Programs.{bench_text}
 use Rattle.gr_engine.specs.declared.ending.WorldEnd.{WorldEnd}
 use Rattle.gr_top.specs.Readings.{FitsLimit, ReadsAs, ReplaysAs, IsDue}
-use Rattle.gr_top.specs.Due.{Reading, accepted, refused, Replayed, unread, bad_line, judged, Due, due_read, due_refused, due_accepted, due_run, due_replayed, due_judged}
+use Rattle.gr_top.specs.Due.{Reading, accepted, refused, Replayed, unread, bad_line, judged, Due, due_read, due_refused, due_accepted, due_run, due_replayed, due_judged, said}
 use Rattle.gr_top.specs.Commands.{asked, is_on_text, is_replay, is_read, is_run, limit_of, text_of}
 use Rattle.gr_top.specs.Promises.{status_of}
+use Rattle.gr_top.specs.Texts.{accepted_text}
+use Rattle.gr_top.specs.declared.answer.Refusal.TheVariants as refusal
 use Rattle.gr_hist.specs.Grammar.{ReadsOnce}
 use Rattle.gr_replay.specs.Laws.{JudgedOnce}
 use Rattle.std.proofs.Common.{Ok, Err}
 use Rattle.gr_top.proofs.Once.{once}
-use Rattle.gr_top.proofs.Told.{IsRan, run_status}
+use Rattle.gr_top.proofs.Told.{IsRan, run_status, same_some}
 
 same_options : (words : List (String Global)) (o q : Options) → asked words ≡ Some o → asked words ≡ Some q → o ≡ q
 same_options words o q x y = let k : Some o ≡ Some q = sym x ∙ y in cc
@@ -85,23 +87,24 @@ module _ (lines_once : ReadsOnce) (judges_once : JudgedOnce) where
   pub due_once : (words : List (String Global)) (bytes : List ℕ) (world : Option WorldEnd) (d e : Due) → IsDue words bytes world d → IsDue words bytes world e → d ≡ e
   due_once words bytes world _ _ (IsDue.usage h) (IsDue.usage k) = refl
   due_once words bytes world _ _ (IsDue.usage h) (IsDue.too_long o some reads more) = absurd (some_options words o some h)
-  due_once words bytes world _ _ (IsDue.usage h) (IsDue.read o some on fits k) = absurd (some_options words o some h)
+  due_once words bytes world _ _ (IsDue.usage h) (IsDue.read o some on fits k due) = absurd (some_options words o some h)
   due_once words bytes world _ _ (IsDue.usage h) (IsDue.replayed o some on few k) = absurd (some_options words o some h)
   due_once words bytes world _ _ (IsDue.too_long o some reads more) (IsDue.usage k) = absurd (some_options words o some k)
   due_once words bytes world _ _ (IsDue.too_long o some reads more) (IsDue.too_long q also sees too) = refl
-  due_once words bytes world _ _ (IsDue.too_long o some reads more) (IsDue.read q also on fits k) =
+  due_once words bytes world _ _ (IsDue.too_long o some reads more) (IsDue.read q also on fits k due) =
       absurd (omega (arith, more, fits (ap (λ (z : Options). is_read z.command) (sym (same_options words o q some also)) ∙ reads), ap (λ (z : Options). limit_of z.command) (same_options words o q some also)))
   due_once words bytes world _ _ (IsDue.too_long o some reads more) (IsDue.replayed q also on few k) =
       absurd (omega (arith, more, few, ap (λ (z : Options). limit_of z.command) (same_options words o q some also)))
-  due_once words bytes world _ _ (IsDue.read o some on fits h) (IsDue.usage k) = absurd (some_options words o some k)
-  due_once words bytes world _ _ (IsDue.read o some on fits h) (IsDue.too_long q also reads more) =
+  due_once words bytes world _ _ (IsDue.read o some on fits h due) (IsDue.usage k) = absurd (some_options words o some k)
+  due_once words bytes world _ _ (IsDue.read o some on fits h due) (IsDue.too_long q also reads more) =
       absurd (omega (arith, more, fits (ap (λ (z : Options). is_read z.command) (same_options words o q some also) ∙ reads), ap (λ (z : Options). limit_of z.command) (same_options words o q some also)))
-  due_once words bytes world _ _ (IsDue.read {reading = x} o some on fits h) (IsDue.read {reading = y} q also off within k) = same_due words bytes world x y o q some also h k
-  due_once words bytes world _ _ (IsDue.read o some on fits h) (IsDue.replayed q also off less k) = absurd (apart words o q is_on_text some also on (replay_is_no_text q.command off))
+  due_once words bytes world d e (IsDue.read {reading = x} o some on fits h due) (IsDue.read {reading = y} q also off within k again) =
+      same_some d e (sym due ∙ same_due words bytes world x y o q some also h k ∙ again)
+  due_once words bytes world _ _ (IsDue.read o some on fits h due) (IsDue.replayed q also off less k) = absurd (apart words o q is_on_text some also on (replay_is_no_text q.command off))
   due_once words bytes world _ _ (IsDue.replayed o some on few h) (IsDue.usage k) = absurd (some_options words o some k)
   due_once words bytes world _ _ (IsDue.replayed o some on few h) (IsDue.too_long q also reads more) =
       absurd (omega (arith, more, few, ap (λ (z : Options). limit_of z.command) (same_options words o q some also)))
-  due_once words bytes world _ _ (IsDue.replayed o some on few h) (IsDue.read q also off fits k) = absurd (apart words q o is_on_text also some off (replay_is_no_text o.command on))
+  due_once words bytes world _ _ (IsDue.replayed o some on few h) (IsDue.read q also off fits k due) = absurd (apart words q o is_on_text also some off (replay_is_no_text o.command on))
   due_once words bytes world _ _ (IsDue.replayed {r = x} o some on few h) (IsDue.replayed {r = y} q also off less k) =
       ap due_replayed (replays_once (program_part bytes) (history_part bytes) x y h k)
 
@@ -110,11 +113,11 @@ module _ (lines_once : ReadsOnce) (judges_once : JudgedOnce) where
 
   -- Of a text that is read it is the answer to what it reads as.
   due_of_reading : (words : List (String Global)) (bytes : List ℕ) (world : Option WorldEnd) (d : Due) (o : Options) (reading : Reading)
-      → IsDue words bytes world d → FitsLimit o bytes → ReadsAs (text_of o bytes) reading → asked words ≡ Some o → is_on_text o.command ≡ true → due_read o reading world ≡ d
+      → IsDue words bytes world d → FitsLimit o bytes → ReadsAs (text_of o bytes) reading → asked words ≡ Some o → is_on_text o.command ≡ true → due_read o reading world ≡ Some d
   due_of_reading words bytes world _ o reading (IsDue.usage none) fits reads some on = absurd (some_options words o some none)
   due_of_reading words bytes world _ o reading (IsDue.too_long q also sees more) fits reads some on =
       absurd (omega (arith, more, fits (ap (λ (z : Options). is_read z.command) (same_options words o q some also) ∙ sees), ap (λ (z : Options). limit_of z.command) (same_options words o q some also)))
-  due_of_reading words bytes world _ o reading (IsDue.read {reading = y} q also off within k) fits reads some on = same_due words bytes world reading y o q some also reads k
+  due_of_reading words bytes world d o reading (IsDue.read {reading = y} q also off within k due) fits reads some on = same_due words bytes world reading y o q some also reads k ∙ due
   due_of_reading words bytes world _ o reading (IsDue.replayed q also off less k) fits reads some on = absurd (apart words o q is_on_text some also on (replay_is_no_text q.command off))
 
   check_reads : (o : Options) (bytes : List ℕ) → o.command ≡ Check → bytes ≡ text_of o bytes
@@ -126,9 +129,11 @@ module _ (lines_once : ReadsOnce) (judges_once : JudgedOnce) where
   pub due_check : (words : List (String Global)) (bytes : List ℕ) (world : Option WorldEnd) (d : Due) (o : Options) (p : Program)
       → IsDue words bytes world d → length bytes ≤ limit_of o.command → ReadsAs bytes (accepted p) → asked words ≡ Some o → o.command ≡ Check → status_of d.refusal ≡ 0
   due_check words bytes world d o p h few reads some c =
-      let e : due_accepted o.command o p world ≡ d =
+      let e : due_accepted o.command o p world ≡ Some d =
       due_of_reading words bytes world d o (accepted p) h (λ k. few) (subst (λ (text : List ℕ). ReadsAs text (accepted p)) (check_reads o bytes c) reads) some (check_on o c) in
-      ap (λ (x : Due). status_of x.refusal) (sym e) ∙ ap (λ (x : Command). status_of (due_accepted x o p world).refusal) c
+      let same : said refusal.Nothing accepted_text ≡ d =
+      same_some (said refusal.Nothing accepted_text) d (sym (ap (λ (x : Command). due_accepted x o p world) c) ∙ e) in
+      ap (λ (x : Due). status_of x.refusal) (sym same)
 
   run_on : (c : Command) → is_run c ≡ true → is_on_text c ≡ true
   run_on Run h = refl
@@ -145,13 +150,13 @@ module _ (lines_once : ReadsOnce) (judges_once : JudgedOnce) where
   pub due_run_status : (words : List (String Global)) (bytes : List ℕ) (world : Option WorldEnd) (d : Due) (o : Options) (p : Program)
       → IsDue words bytes world d → FitsLimit o bytes → ReadsAs (text_of o bytes) (accepted p) → asked words ≡ Some o → is_run o.command ≡ true → IsRan d
   due_run_status words bytes world d o p h fits reads some c =
-      let e : due_run o p world ≡ d = sym (run_due o.command o p world c) ∙ due_of_reading words bytes world d o (accepted p) h fits reads some (run_on o.command c) in
-      subst IsRan e (run_status o p world)
+      let e : due_run o p world ≡ Some d = sym (run_due o.command o p world c) ∙ due_of_reading words bytes world d o (accepted p) h fits reads some (run_on o.command c) in
+      run_status o p world d e
 
   -- A refused text is refused.
   pub due_refusal : (words : List (String Global)) (bytes : List ℕ) (world : Option WorldEnd) (d : Due) (o : Options) (f : Fault)
       → IsDue words bytes world d → FitsLimit o bytes → ReadsAs (text_of o bytes) (refused f) → asked words ≡ Some o → is_on_text o.command ≡ true → d ≡ due_refused f
-  due_refusal words bytes world d o f h fits reads some on = sym (due_of_reading words bytes world d o (refused f) h fits reads some on)
+  due_refusal words bytes world d o f h fits reads some on = sym (same_some (due_refused f) d (due_of_reading words bytes world d o (refused f) h fits reads some on))
 
   -- A legal history is said to be legal.
   pub due_legal : (words : List (String Global)) (bytes : List ℕ) (world : Option WorldEnd) (d : Due) (o : Options) (b : Bool)

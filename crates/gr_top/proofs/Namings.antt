@@ -24,6 +24,8 @@ use Rattle.gr_expressions.specs.Tok.{Tok, tok_of, tok_of_kind, tok_of_word, toks
 use Rattle.gr_parse.specs.Grammar.{IsItem, IsProgramOf}
 use Rattle.gr_parse.proofs.Whole.{Cut, cut}
 use Rattle.gr_hist.specs.Naming.{IsNamed}
+use Rattle.gr_runnable.specs.Runnable.{IsRunnable}
+use Rattle.gr_runnable.specs.Laws.{TextsAreRunnable}
 use Rattle.gr_top.specs.Readings.{ReadsAs}
 use Rattle.gr_top.specs.Due.{Reading, accepted}
 
@@ -120,6 +122,14 @@ accepted_is text p h = by (accepted p) h refl
   where
     by : (r : Reading) → ReadsAs text r → r ≡ accepted p → IsAccepted p
     by _ (ReadsAs.program {p = q} reads of a) e = let same : q ≡ p = cc in subst IsAccepted same a
+    by _ _ e = cc
+
+-- It can be run.
+pub accepted_runnable : TextsAreRunnable → (text : List ℕ) (p : Program) → ReadsAs text (accepted p) → IsRunnable p
+accepted_runnable law text p h = by (accepted p) h refl
+  where
+    by : (r : Reading) → ReadsAs text r → r ≡ accepted p → IsRunnable p
+    by _ (ReadsAs.program {tokens} {p = q} reads of a) e = let same : q ≡ p = cc in subst IsRunnable same (law text tokens q reads of a)
     by _ _ e = cc
 
 -- The keyword `heap` is no name.

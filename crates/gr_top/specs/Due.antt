@@ -16,9 +16,9 @@ use Rattle.gr_report.specs.Showing.{shown_of}
 use Rattle.gr_engine.specs.declared.ending.WorldEnd.{WorldEnd}
 use Rattle.gr_engine.specs.Ends.{Ended, complete, ended_as, limited, stalled, trapped}
 use Rattle.gr_top.specs.Commands.{setup_of}
-use Rattle.gr_top.specs.Texts.{accepted_text, refused_text, usage_text, too_long_text, legal_text, not_legal_text, bad_line_text, stalled_text, uncertified_text}
+use Rattle.gr_top.specs.Texts.{accepted_text, refused_text, usage_text, too_long_text, legal_text, not_legal_text, bad_line_text, stalled_text}
 use Rattle.gr_top.specs.declared.answer.Refusal.{Refusal}
-use Rattle.gr_top.specs.declared.answer.Refusal.TheVariants.{Nothing, Refused, Usage, Trap, ReadFault, WriteFault, Memory, EventLimit, TooLong, NotLegal, BadLine, Stalled, Uncertified}
+use Rattle.gr_top.specs.declared.answer.Refusal.TheVariants.{Nothing, Refused, Usage, Trap, ReadFault, WriteFault, Memory, EventLimit, TooLong, NotLegal, BadLine, Stalled}
 
 -- What a text reads as: an accepted program, or its first fault.
 pub data Reading : Type 0 where
@@ -49,9 +49,6 @@ due_too_long = said TooLong too_long_text
 
 abbrev pub due_refused : Fault → Due
 due_refused f = said (Refused f.kind f.at.line f.at.column) (refused_text f)
-
-abbrev pub due_uncertified : Due
-due_uncertified = said Uncertified uncertified_text
 
 -- The history text and the counts follow where the options ask for them.
 abbrev pub told : Bool → Program → ℕ → ℕ → List Entry → List ℕ
@@ -84,18 +81,18 @@ abbrev pub due_ended : Options → Program → WorldEnd → Ended → Due
 due_ended options program world stalled = record { refusal = Stalled; text = stalled_text; ran = true }
 due_ended options program world how = record { refusal = refusal_of how; text = run_text options program world how; ran = true }
 
--- Of a run that is kept; one that isn't kept is not certified.
-abbrev pub due_run : Options → Program → Option WorldEnd → Due
-due_run options program None = due_uncertified
-due_run options program (Some world) = due_ended options program world (ended_as (setup_of options) program world)
+-- Of the run that is kept; no answer is due where there should be a run and none is kept.
+abbrev pub due_run : Options → Program → Option WorldEnd → Option Due
+due_run options program None = None
+due_run options program (Some world) = Some (due_ended options program world (ended_as (setup_of options) program world))
 
-abbrev pub due_accepted : Command → Options → Program → Option WorldEnd → Due
-due_accepted Check options program world = said Nothing accepted_text
+abbrev pub due_accepted : Command → Options → Program → Option WorldEnd → Option Due
+due_accepted Check options program world = Some (said Nothing accepted_text)
 due_accepted _ options program world = due_run options program world
 
 -- Of a command on a text that was read.
-abbrev pub due_read : Options → Reading → Option WorldEnd → Due
-due_read options (refused fault) world = due_refused fault
+abbrev pub due_read : Options → Reading → Option WorldEnd → Option Due
+due_read options (refused fault) world = Some (due_refused fault)
 due_read options (accepted program) world = due_accepted options.command options program world
 
 -- Of a replay.

@@ -18,7 +18,7 @@ use Rattle.gr_machine.specs.Machines.{machine_of}
 use Rattle.gr_engine.specs.declared.ending.WorldEnd.{WorldEnd}
 use Rattle.gr_engine.specs.Ends as ended
 use Rattle.gr_engine.specs.Ends.{ended_as, stalled}
-use Rattle.gr_engine.specs.Runs.{AreStuck, IsMachineRun, IsUncertified}
+use Rattle.gr_engine.specs.Runs.{AreStuck, IsMachineRun}
 use Rattle.gr_top.specs.Readings.{FitsLimit, IsDue, ReadsAs, ReplaysAs}
 use Rattle.gr_top.specs.Due.{Due, Came, accepted, refused, bad_line, judged, run_text}
 use Rattle.gr_top.specs.Commands.{asked, is_on_text, is_read, is_replay, is_run, limit_of, setup_of, text_of}
@@ -92,9 +92,9 @@ AnswersChecks words status R W bytes =
     (options : Options) (program : Program) → length bytes ≤ limit_of options.command → ReadsAs bytes (accepted program) → asked words ≡ Some options
     → options.command ≡ Check → (R → ⊥) → (W → ⊥) → (status ≡ 0) ⊎ (status ≡ 6)
 
--- The statuses of a run: it ended, a task was trapped, memory was wanting, a clock came to the limit of events; or it stalled, or wasn't certified.
+-- The statuses of a run: it ended, a task was trapped, memory was wanting, a clock came to the limit of events, or it stalled.
 abbrev pub IsRunStatus : ℕ → Type 0
-IsRunStatus status = (status ≡ 0) ⊎ (status ≡ 3) ⊎ (status ≡ 6) ⊎ (status ≡ 7) ⊎ (status ≡ 11) ⊎ (status ≡ 12)
+IsRunStatus status = (status ≡ 0) ⊎ (status ≡ 3) ⊎ (status ≡ 6) ⊎ (status ≡ 7) ⊎ (status ≡ 11)
 
 -- A run of an accepted text ends with one of these.
 abbrev pub AnswersRuns : List (String Global) → ℕ → (R W : Type 0) → List ℕ → Type 0
@@ -140,14 +140,6 @@ NotLegalWhere answer bytes = (entry : ℕ) → answer ≡ refusal.NotLegal entry
 abbrev pub BadLineWhere : Refusal → List ℕ → Type 0
 BadLineWhere answer bytes = (line : ℕ) → answer ≡ refusal.BadLine line → ReplaysAs (program_part bytes) (history_part bytes) (bad_line line)
 
--- A run is not certified where one of the program that the text reads as isn't.
-abbrev pub UncertifiedOf : List (String Global) → List ℕ → Type 0
-UncertifiedOf words bytes =
-    (options : Options) × (program : Program) × (asked words ≡ Some options) × ReadsAs (text_of options bytes) (accepted program) × IsUncertified (setup_of options) program
-
-abbrev pub UncertifiedWhere : List (String Global) → Refusal → List ℕ → Type 0
-UncertifiedWhere words answer bytes = answer ≡ refusal.Uncertified → UncertifiedOf words bytes
-
 -- The source had one fault where the refusal says so, and else none.
 abbrev pub CountsReads : Refusal → ℕ → ℕ → Type 0
 CountsReads refusal.ReadFault before now = now ≡ next_count before
@@ -172,4 +164,3 @@ status_of refusal.TooLong = 8
 status_of (refusal.NotLegal entry) = 9
 status_of (refusal.BadLine line) = 10
 status_of refusal.Stalled = 11
-status_of refusal.Uncertified = 12

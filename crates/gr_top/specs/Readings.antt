@@ -46,7 +46,7 @@ FitsLimit options bytes = is_read options.command ≡ true → length bytes ≤ 
 pub data IsDue (words : List (String Global)) (bytes : List ℕ) (world : Option WorldEnd) : Due → Type 0 where
   usage : asked words ≡ None → IsDue words bytes world due_usage
   too_long : (o : Options) → asked words ≡ Some o → is_read o.command ≡ true → limit_of o.command < length bytes → IsDue words bytes world due_too_long
-  read : {reading : Reading} → (o : Options) → asked words ≡ Some o → is_on_text o.command ≡ true → FitsLimit o bytes → ReadsAs (text_of o bytes) reading
-      → IsDue words bytes world (due_read o reading world)
+  read : {reading : Reading} {d : Due} → (o : Options) → asked words ≡ Some o → is_on_text o.command ≡ true → FitsLimit o bytes → ReadsAs (text_of o bytes) reading
+      → due_read o reading world ≡ Some d → IsDue words bytes world d
   replayed : {r : Replayed} → (o : Options) → asked words ≡ Some o → is_replay o.command ≡ true → length bytes ≤ limit_of o.command → ReplaysAs (program_part bytes) (history_part bytes) r
       → IsDue words bytes world (due_replayed r)

@@ -26,9 +26,6 @@ bad_line_text line = codes "bad history line " ++ (decimal line ++ codes "\n")
 abbrev pub stalled_text : List ℕ
 stalled_text = codes "stalled\n"
 
-abbrev pub uncertified_text : List ℕ
-uncertified_text = codes "uncertified\n"
-
 -- Where a text is refused, and why.
 abbrev pub refused_text : Fault → List ℕ
 refused_text f = codes "refused line " ++ (decimal f.at.line ++ (codes " column " ++ (decimal f.at.column ++ (codes ": " ++ (words_of f.kind ++ codes "\n")))))

@@ -30,15 +30,12 @@ pub enum Refusal {
     BadLine { line: u64 },
     /// No core could go on, and the run hadn't ended. Nobody has seen this: it would be a defect of the runtime.
     Stalled,
-    /// The history of a run is none of the plain memory, or its cores say something else of its end. Nobody has seen
-    /// this: it would be a defect of the runtime. Nothing of the run is told.
-    Uncertified,
 }
 
 /// The end of a call.
 #[derive(Drop)]
 pub struct RunEnd {
-    /// The exit status: 0 to 12, one for each kind of refusal.
+    /// The exit status: 0 to 11, one for each kind of refusal.
     pub status: u8,
     pub refusal: Refusal,
     /// What is left of the run, where one was made.

@@ -8,7 +8,7 @@ ghost use Rattle.gr_top.specs.Readings.{IsDue};
 ghost use Rattle.gr_top.specs.Due.{IsWritten};
 ghost use Rattle.gr_top.specs.Counts.{CountsStop};
 ghost use Rattle.gr_top.specs.Commands.{asked as asked_of, is_read as reads_source, limit_of};
-ghost use Rattle.gr_top.specs.Promises.{IsUnread, status_of, CountsReads, CountsWrites, AnsweredSome, AnswersChecks, AnswersRefused, AnswersReplays, AnswersRuns, BadLineWhere, IsTooLong, NotLegalWhere, RanWell, RefusedWhere, UncertifiedWhere, Answered, IsWorldOf, IsDelivered, IsRetold};
+ghost use Rattle.gr_top.specs.Promises.{IsUnread, status_of, CountsReads, CountsWrites, AnsweredSome, AnswersChecks, AnswersRefused, AnswersReplays, AnswersRuns, BadLineWhere, IsTooLong, NotLegalWhere, RanWell, RefusedWhere, Answered, IsWorldOf, IsDelivered, IsRetold};
 ghost use Rattle.gr_top.specs.AnswerView.{made};
 
 use crate::answer::{Answer, Refusal, RunEnd};
@@ -59,8 +59,6 @@ fn answer_to<R: Threads + Sync, G: Gate>(
         → asked_of words ≡ Some options.now → IsDue words bytes.now a.world (made a)) }
     ensures world { IfOk result (λ a. (words : List (String Global))
         → asked_of words ≡ Some options.now → IsWorldOf words bytes.now a.world) }
-    ensures uncertified { IfOk result (λ a. (words : List (String Global))
-        → asked_of words ≡ Some options.now → UncertifiedWhere words a.refusal bytes.now) }
     ensures written { IfOk result (λ a. IsWritten a.refusal) }
 {
     if is_replay(options.command) {
@@ -86,8 +84,6 @@ fn answer_to_bench<R: Threads + Sync, G: Gate>(
         → asked_of words ≡ Some options.now → IsDue words bytes a.world (made a)) }
     ensures world { IfOk result (λ a. (words : List (String Global)) (bytes : List ℕ)
         → asked_of words ≡ Some options.now → IsWorldOf words bytes a.world) }
-    ensures uncertified { IfOk result (λ a. (words : List (String Global)) (bytes : List ℕ)
-        → asked_of words ≡ Some options.now → UncertifiedWhere words a.refusal bytes) }
     ensures written { IfOk result (λ a. IsWritten a.refusal) }
 {
     let text = bench(alloc, options.kind, options.size, options.seed)?;
@@ -111,8 +107,6 @@ fn answer<R: Threads + Sync, S: Source, G: Gate>(
     ensures some_bytes { IfOk result (λ a. (bytes : List ℕ)
         × Consumes (S.left source.old) (S.left source.new) bytes
         × IsDue words.now bytes a.world (made a) × IsWorldOf words.now bytes a.world) }
-    ensures uncertified { IfOk result (λ a. IfSome (S.left source.old)
-        (UncertifiedWhere words.now a.refusal)) }
     ensures written { IfOk result (λ a. IsWritten a.refusal) }
     ensures unread { IsUnread (asked_of words.now) → source.new ≡ source.old }
     ensures within { IfSome (asked_of words.now)
@@ -174,7 +168,8 @@ pub fn top<R: Threads + Sync, S: Source, K: Sink, G: Gate>(
     ensures some_bytes { IsDelivered result.refusal → AnsweredSome words.now (S.left source.old)
         (S.left source.new) (K.got sink.old) (K.got sink.new) result.refusal result.world }
 
-    // The headline: at status 0 a run was legal and complete; the sink got its prints and contents.
+    // The headline: at status 0 the run that the threads made, whatever their schedule, is legal and complete, and
+    // the sink got its prints and contents. Nothing tests that at run time: it is proved of every run.
     ensures headline { result.status ≡ 0 → IfSome (S.left source.old) (λ bytes.
         RanWell words.now bytes (K.got sink.old) (K.got sink.new) result.world) }
 
@@ -204,7 +199,6 @@ pub fn top<R: Threads + Sync, S: Source, K: Sink, G: Gate>(
     ensures refused { IfSome (S.left source.old) (RefusedWhere words.now result.refusal) }
     ensures not_legal { IfSome (S.left source.old) (NotLegalWhere result.refusal) }
     ensures bad_line { IfSome (S.left source.old) (BadLineWhere result.refusal) }
-    ensures uncertified { IfSome (S.left source.old) (UncertifiedWhere words.now result.refusal) }
     ensures read_fault { CountsReads result.refusal (S.faults source.old) (S.faults source.new) }
     ensures write_fault { CountsWrites result.refusal (K.faults sink.old) (K.faults sink.new) }
     ensures status { result.status ≡ status_of result.refusal }

@@ -25,7 +25,6 @@ pub(crate) fn status(refusal: Refusal) -> u8
         Refusal::NotLegal { .. } => 9,
         Refusal::BadLine { .. } => 10,
         Refusal::Stalled => 11,
-        Refusal::Uncertified => 12,
     }
 }
 

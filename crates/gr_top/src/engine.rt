@@ -1,13 +1,13 @@
 //! From options and a text to an answer that is whole before a byte is written.
-ghost use Rattle.std.specs.Prelude.{◌≡◌, ◌≢◌, ◌++◌, true, IfOk, IfSome, OnOk, None, Some, string_bytes};
+ghost use Rattle.std.specs.Prelude.{◌≡◌, ◌++◌, true, IfOk, IfSome, OnOk, None, Some, string_bytes};
 ghost use Rattle.gr_syntax.specs.declared.syntax.Program.{Program};
 ghost use Rattle.gr_lang.specs.Histories.{legal};
 ghost use Rattle.gr_cli.specs.Options.{IsWithinLimits};
 ghost use Rattle.gr_engine.specs.Ends.{IsEnding, ended_as};
-ghost use Rattle.gr_engine.specs.Runs.{IsUncertified};
 ghost use Rattle.gr_hist.specs.Naming.{IsNamed, ReadsBack, history_text};
+ghost use Rattle.gr_runnable.specs.Runnable.{IsRunnable};
 ghost use Rattle.gr_top.specs.Readings.{ReadsAs};
-ghost use Rattle.gr_top.specs.Due.{Reading, accepted as accepted_as, counted as counted_of, due_accepted, due_ended, due_read, due_refused, due_run, told as told_of, IsWritten};
+ghost use Rattle.gr_top.specs.Due.{Reading, accepted as accepted_as, counted as counted_of, due_accepted, due_read, due_refused, due_run, told as told_of, IsWritten};
 ghost use Rattle.gr_top.specs.Commands.{setup_of};
 ghost use Rattle.gr_top.specs.Promises.{IsRunOf};
 ghost use Rattle.gr_top.specs.AnswerView.{lines_at, made, refusal_at, text_at};
@@ -15,7 +15,7 @@ ghost use Rattle.gr_top.specs.AnswerView.{lines_at, made, refusal_at, text_at};
 use crate::answer::{Answer, Refusal};
 use crate::command::setup;
 use crate::reading::{TextRead, read_text};
-use crate::texts::{STALLED, UNCERTIFIED, refused_text};
+use crate::texts::{STALLED, refused_text};
 use gr_accept::Accepted;
 use gr_cli::{Command, Options};
 use gr_engine::{Ending, Ran, run_program};
@@ -25,6 +25,7 @@ use gr_machine::CoreEnds;
 use gr_reduce::Reducers;
 use gr_report::{counts_text, prints, show_text, write_limit, write_trap};
 use gr_round::Gate;
+use gr_runnable::texts_are_runnable;
 use gr_syntax::Fault;
 use std::alloc::{AllocError, Global};
 use std::thread::Threads;
@@ -154,19 +155,17 @@ fn text_of(
     Ok(text)
 }
 
-/// The answer to a run that is certified.
+/// The answer to a run.
 fn ran(alloc: Global, options: &Options, program: &Accepted, ran: Ran) -> Result<Answer, AllocError>
     requires named { IsNamed program.now }
     requires ends { IsEnding ran.ending (ended_as (setup_of options.now) program.now ran.world) }
-    ensures due { IfOk result (λ a. made a ≡ due_ended options.now program.now ran.world
-        (ended_as (setup_of options.now) program.now ran.world)) }
+    ensures due { IfOk result (λ a. due_run options.now program.now a.world ≡ Some (made a)) }
     ensures world { IfOk result (λ a. a.world ≡ Some ran.world) }
     ensures told { OnOk result (options.now.history ≡ true
         → legal program.now options.now.cores options.now.steps ran.world.history ≡ true
         → ReadsBack program.now options.now.cores options.now.steps ran.world.history
         (history_text program.now options.now.cores options.now.steps ran.world.history)) }
     ensures written { IfOk result (λ a. IsWritten a.refusal) }
-    ensures certified { IfOk result (λ a. a.refusal ≢ Refusal.Uncertified) }
 {
     let Ran { world, ending } = ran;
     let mut more = told(alloc, options, program, &world.history)?;
@@ -191,13 +190,12 @@ fn run_accepted<R: Threads + Sync, G: Gate>(
 ) -> Result<Answer, AllocError>
     requires limits { IsWithinLimits options.now }
     requires named { IsNamed program.now }
-    ensures due { IfOk result (λ a. made a ≡ due_run options.now program.now a.world) }
+    requires runnable { IsRunnable program.now }
+    ensures due { IfOk result (λ a. due_run options.now program.now a.world ≡ Some (made a)) }
     ensures runs { IfOk result (λ a. IfSome a.world (IsRunOf options.now program.now)) }
-    ensures uncertified { IfOk result (λ a. a.refusal ≡ Refusal.Uncertified
-        → IsUncertified (setup_of options.now) program.now) }
     ensures written { IfOk result (λ a. IsWritten a.refusal) }
 {
-    let found = run_program(
+    let run = run_program(
         rt,
         alloc,
         program,
@@ -206,10 +204,7 @@ fn run_accepted<R: Threads + Sync, G: Gate>(
         reducers,
         gate,
     )?;
-    match found {
-        Some(run) => ran(alloc, options, program, run),
-        None => said(alloc, Refusal::Uncertified, UNCERTIFIED),
-    }
+    ran(alloc, options, program, run)
 }
 
 /// The answer to an accepted program.
@@ -223,10 +218,10 @@ fn accepted<R: Threads + Sync, G: Gate>(
 ) -> Result<Answer, AllocError>
     requires limits { IsWithinLimits options.now }
     requires named { IsNamed program.now }
-    ensures due { IfOk result (λ a. made a ≡ due_accepted options.now.command options.now program.now a.world) }
+    requires runnable { IsRunnable program.now }
+    ensures due { IfOk result (λ a.
+        due_accepted options.now.command options.now program.now a.world ≡ Some (made a)) }
     ensures runs { IfOk result (λ a. IfSome a.world (IsRunOf options.now program.now)) }
-    ensures uncertified { IfOk result (λ a. a.refusal ≡ Refusal.Uncertified
-        → IsUncertified (setup_of options.now) program.now) }
     ensures written { IfOk result (λ a. IsWritten a.refusal) }
 {
     match options.command {
@@ -248,14 +243,13 @@ pub(crate) fn run_text<R: Threads + Sync, G: Gate>(
 ) -> Result<Answer, AllocError>
     requires limits { IsWithinLimits options.now }
     ensures due { IfOk result (λ a. (reading : Reading) × ReadsAs text.now reading
-        × (made a ≡ due_read options.now reading a.world)) }
+        × (due_read options.now reading a.world ≡ Some (made a))) }
     ensures world { IfOk result (λ a. IfSome a.world (λ world. (p : Program)
         × ReadsAs text.now (accepted_as p) × IsRunOf options.now p world)) }
-    ensures uncertified { IfOk result (λ a. a.refusal ≡ Refusal.Uncertified
-        → (p : Program) × ReadsAs text.now (accepted_as p) × IsUncertified (setup_of options.now) p) }
     ensures written { IfOk result (λ a. IsWritten a.refusal) }
 {
     let read = read_text(alloc, text)?;
+    texts_are_runnable();
     match read {
         TextRead::Accepted { program } => {
             let answer = accepted(rt, alloc, options, &program, reducers, gate)?;

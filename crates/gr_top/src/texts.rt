@@ -12,9 +12,6 @@ pub(crate) const USAGE: &str =
 /// What is said of a run in which no core could go on.
 pub(crate) const STALLED: &str = "stalled\n";
 
-/// What is said of a run that isn't certified.
-pub(crate) const UNCERTIFIED: &str = "uncertified\n";
-
 /// The line that says where a text is refused, and why.
 pub(crate) fn refused_text(alloc: Global, fault: Fault) -> Result<String, AllocError>
     ensures { IfOk result (λ text. string_bytes text ≡ spec.refused_text fault) }

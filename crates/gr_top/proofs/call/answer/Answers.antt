@@ -28,11 +28,6 @@ returns-then-not-is_read-clause-world g c =
     let some : asked c.args.words.now ≡ Some c.in-Some.options = sym c.in_ok-options.ensures.options ∙ c.in-Some.is in
     if_some _ (λ bytes e. c.in_ok-answer-2.ensures.world c.args.words.now bytes some)
 
-pub returns-then-not-is_read-clause-uncertified : goal.returns-then-not-is_read-clause-uncertified
-returns-then-not-is_read-clause-uncertified g c =
-    let some : asked c.args.words.now ≡ Some c.in-Some.options = sym c.in_ok-options.ensures.options ∙ c.in-Some.is in
-    if_some _ (λ bytes e. c.in_ok-answer-2.ensures.uncertified c.args.words.now bytes some)
-
 pub returns-then-not-is_read-clause-some_bytes : goal.returns-then-not-is_read-clause-some_bytes
 returns-then-not-is_read-clause-some_bytes g c =
     let some : asked c.args.words.now ≡ Some c.in-Some.options = sym c.in_ok-options.ensures.options ∙ c.in-Some.is in

@@ -3,10 +3,10 @@ use Rattle.gr_hist.proofs.Readings.{reads_once}
 use Rattle.gr_replay.specs.Laws.{JudgedOnce}
 use Rattle.gr_replay.proofs.Verdicts.{said}
 use Rattle.gr_top.specs.Readings.{IsDue}
-use Rattle.gr_top.specs.Promises.{IsWorldOf, AnswersChecks, AnswersRuns, AnswersReplays, AnswersRefused, IsRunStatus, RanWell, RefusedWhere, NotLegalWhere, BadLineWhere, UncertifiedWhere}
+use Rattle.gr_top.specs.Promises.{IsWorldOf, AnswersChecks, AnswersRuns, AnswersReplays, AnswersRefused, IsRunStatus, RanWell, RefusedWhere, NotLegalWhere, BadLineWhere}
 use Rattle.gr_top.specs.AnswerView.{made}
 use Rattle.gr_top.proofs.Dues.{if_some, of_some}
-use Rattle.gr_top.proofs.Calls.{answer_told, usage_of, too_long_of, refused_of, entry_of, line_of, headline_of, check_of, run_of, replay_of, refuse_of, uncertified_of}
+use Rattle.gr_top.proofs.Calls.{answer_told, usage_of, too_long_of, refused_of, entry_of, line_of, headline_of, check_of, run_of, replay_of, refuse_of}
 use Rattle.gr_top.proofs.Retold.{world_retold}
 use Rattle.gr_top.proofs.Counted.{reads_quiet}
 use Rattle.gr_top.proofs.call.top.Goals as goal
@@ -49,12 +49,6 @@ returns-in-Ok-clause-runs g c =
     if_some {A = List ℕ} {P = (AnswersRuns c.args.words.now c.deliver.result.status _ _)} _ (λ bytes e o p fits reads some run quiet silent.
     subst IsRunStatus (sym c.deliver.ensures.status) (run_of c.args.words.now c.in-Ok.answer _ _ c.deliver.result.refusal c.deliver.result.world c.deliver.ensures.world c.deliver.ensures.came reads_once judged_once bytes o p
     (of_some (λ (bs : List ℕ). IsDue c.args.words.now bs c.in-Ok.answer.world (made c.in-Ok.answer)) _ bytes e c.in-Ok.ensures.due) fits reads some run (λ written k. silent (c.deliver.ensures.fault written k))))
-
-pub returns-in-Ok-clause-uncertified : goal.returns-in-Ok-clause-uncertified
-returns-in-Ok-clause-uncertified g c =
-    if_some {A = List ℕ} {P = (UncertifiedWhere c.args.words.now c.deliver.result.refusal)} _ (λ bytes e.
-    uncertified_of c.args.words.now c.in-Ok.answer _ _ c.deliver.result.refusal c.deliver.result.world c.deliver.ensures.world c.deliver.ensures.came bytes
-    (of_some (λ (bs : List ℕ). UncertifiedWhere c.args.words.now c.in-Ok.answer.refusal bs) _ bytes e c.in-Ok.ensures.uncertified))
 
 pub returns-in-Ok-clause-replays : goal.returns-in-Ok-clause-replays
 returns-in-Ok-clause-replays g c =
