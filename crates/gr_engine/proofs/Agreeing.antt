@@ -21,6 +21,7 @@ use Rattle.gr_history.specs.Agreeing.{Agrees, EndsAgree}
 use Rattle.gr_history.specs.Laws.{RunsAgree}
 use Rattle.gr_engine.specs.declared.ending.Ending.{Ending}
 use Rattle.gr_engine.specs.declared.ending.Ending.TheVariants as ending
+use Rattle.gr_engine.specs.declared.ending.Ran.{Ran}
 use Rattle.gr_engine.specs.declared.ending.WorldEnd.{WorldEnd}
 use Rattle.gr_engine.specs.Ends.{Ended, IsEnding, complete, ended_as, ended_at, ended_open}
 use Rattle.gr_engine.specs.EndingWords.{IsRunTo, told_as}
@@ -66,7 +67,7 @@ module _ (state : State) (trap : Option TrapAt) (spent : Option LimitAt) (what :
       by_passed what (complete state.objects) (ended_open trap spent) state.passed false h.0
       (open_ends what trap spent None h.1 h.2 (subst (λ (x : Ending). IsEnding x (ended_open None None)) (same_some ending.Stalled what is) tt))
 
-pub agreed_ends : (setup : Setup) (p : Program) (outcome : Outcome) (gathered : List Content) (world : WorldEnd) (trap : Option TrapAt) (what : Ending)
+agreed_ends : (setup : Setup) (p : Program) (outcome : Outcome) (gathered : List Content) (world : WorldEnd) (trap : Option TrapAt) (what : Ending)
     → EndsAgree setup p outcome gathered world.history world.cores → trap ≡ first_trap world.history → told_as outcome gathered trap ≡ Some what → IsEnding what (ended_as setup p world)
 unfolding ended_as
 agreed_ends setup p outcome gathered world trap what agree first is =
@@ -75,7 +76,7 @@ agreed_ends setup p outcome gathered world trap what agree first is =
     (ap (λ (x : Option TrapAt). told_as outcome gathered x) (sym first) ∙ is))
 
 -- Its history is legal, and has a trap where a task is trapped; and it is told as stalled only where it has.
-pub agreed_legal : (setup : Setup) (p : Program) (outcome : Outcome) (gathered : List Content) (history : List Entry) (cores : List CoreEnd)
+agreed_legal : (setup : Setup) (p : Program) (outcome : Outcome) (gathered : List Content) (history : List Entry) (cores : List CoreEnd)
     → EndsAgree setup p outcome gathered history cores → legal p setup.cores setup.steps history ≡ true
 agreed_legal setup p outcome gathered history cores agree = ap (λ (o : Option State). is_some o) agree.leads
 
@@ -85,7 +86,7 @@ trap_there state how.Ended gathered trap spent h is = cc
 trap_there state (how.EventLimit core clock) gathered trap spent h is = cc
 trap_there state how.Stalled gathered trap spent h is = cc
 
-pub agreed_trap : (setup : Setup) (p : Program) (outcome : Outcome) (gathered : List Content) (history : List Entry) (cores : List CoreEnd) (trap : Option TrapAt)
+agreed_trap : (setup : Setup) (p : Program) (outcome : Outcome) (gathered : List Content) (history : List Entry) (cores : List CoreEnd) (trap : Option TrapAt)
     → EndsAgree setup p outcome gathered history cores → trap ≡ first_trap history → outcome ≡ how.Trapped → is_some trap ≡ true
 agreed_trap setup p outcome gathered history cores trap agree first is =
     ap (λ (x : Option TrapAt). is_some x) first
@@ -99,4 +100,18 @@ told_stalled (how.EventLimit core clock) gathered trap what is e =
 told_stalled how.Trapped gathered None what is e = absurd (no_some what is)
 told_stalled how.Trapped gathered (Some trap) what is e = let k : ending.Trapped trap ≡ ending.Stalled = same_some (ending.Trapped trap) what is ∙ e in cc
 
-pub ruleset agrees = (agreed_legal, agreed_trap, told_stalled)
+-- So it is of what is told of a run.
+module _ (setup : Setup) (p : Program) (outcome : Outcome) (gathered : List Content) (world : WorldEnd)
+    (agree : EndsAgree setup p outcome gathered world.history world.cores) where
+  pub trap_told : outcome ≡ how.Trapped → is_some (first_trap world.history) ≡ true
+  trap_told = agreed_trap setup p outcome gathered world.history world.cores (first_trap world.history) agree refl
+
+  module _ (ran : Ran) (same : ran.world ≡ world) (told : told_as outcome gathered (first_trap world.history) ≡ Some ran.ending) where
+    pub legal_told : legal p setup.cores setup.steps ran.world.history ≡ true
+    legal_told = ap (λ (w : WorldEnd). legal p setup.cores setup.steps w.history) same ∙ agreed_legal setup p outcome gathered world.history world.cores agree
+
+    pub end_told : IsEnding ran.ending (ended_as setup p world)
+    end_told = agreed_ends setup p outcome gathered world (first_trap world.history) ran.ending agree refl told
+
+    pub ends_told : IsEnding ran.ending (ended_as setup p ran.world)
+    ends_told = subst (λ (w : WorldEnd). IsEnding ran.ending (ended_as setup p w)) (sym same) end_told

@@ -1,9 +1,9 @@
 //! The run of a program on worker threads.
 ghost use Rattle.std.specs.Prelude.{◌≡◌, ◌≤◌, IfOk, Some, is_some, true};
-ghost use Rattle.gr_history.specs.Agreeing.{EndsAgree};
 ghost use Rattle.gr_lang.specs.Histories.{legal};
 ghost use Rattle.gr_machine.specs.Machines.{machine_of};
 ghost use Rattle.gr_posts.specs.Posts.{IsSetup};
+ghost use Rattle.gr_report.specs.Texts.{first_trap as first_trap_of};
 ghost use Rattle.gr_runnable.specs.Runnable.{IsRunnable};
 ghost use Rattle.gr_engine.specs.Ends.{IsEnding, ended_as, stalled};
 ghost use Rattle.gr_engine.specs.EndingWords.{told_as};
@@ -40,17 +40,14 @@ fn ending(outcome: Outcome, gathered: Contents, trap: Option<TrapAt>) -> Ending
     }
 }
 
-/// A run that was made, and how it ended: its cores and its history say the same of that.
-#[tactic(auto, using(crate::proofs::Agreeing::agrees))]
-fn told(program: &Accepted, setup: Setup, made: Made) -> Ran
-    requires { EndsAgree setup program.now made.outcome made.gathered made.world.history made.world.cores }
+/// What is left of a run that was made, and how it ended: where a task is trapped, its history has a trap.
+fn told(made: Made) -> Ran
+    requires { made.outcome ≡ Outcome.Trapped
+        → is_some (first_trap_of made.world.history) ≡ true }
     ensures world { result.world ≡ made.world }
-    ensures legal { legal program.now setup.cores setup.steps made.world.history ≡ true }
-    ensures ends { IsEnding result.ending (ended_as setup program.now made.world) }
-    ensures stalled { result.ending ≡ Ending.Stalled → made.outcome ≡ Outcome.Stalled }
+    ensures ending { told_as made.outcome made.gathered (first_trap_of made.world.history)
+        ≡ Some result.ending }
 {
-    let _ = program;
-    let _ = setup;
     let Made {
         outcome,
         gathered,
@@ -85,5 +82,5 @@ pub fn run_program<R: Threads + Sync, G: Gate>(
 {
     let made = make(rt, alloc, program, setup, slice, reducers, gate)?;
     runs_agree();
-    Ok(told(program, setup, made))
+    Ok(told(made))
 }
