@@ -52,10 +52,10 @@ turn_finds : (given : Given) (me number : ℕ) (body : Body) → HasLines given 
 turn_finds given me number body lines vector turn there mine =
     let is : is_vector (thing (machine_in given) number) ≡ true = sym (lines.vectors number) ∙ ap is_some there in
     let waits : CallsWait number vector (tasks_on number body) =
-        subst (λ (held : Option Vector). CallsWait number (vector_in held) (tasks_on number body)) there (lines.calls number is) in
+    subst (λ (held : Option Vector). CallsWait number (vector_in held) (tasks_on number body)) there (lines.calls number is) in
     let oldest = waits.oldest turn mine in
     callers number body turn.calls
-        (subst (λ (groups : List (List WaitingCall)). Each (Each (IsWaiting (tasks_on number body) number (wait.Turn number))) groups) oldest.1 waits.grouped).0
+    (subst (λ (groups : List (List WaitingCall)). Each (Each (IsWaiting (tasks_on number body) number (wait.Turn number))) groups) oldest.1 waits.grouped).0
 
 -- ---- what comes first
 
@@ -77,7 +77,7 @@ module _ (given : Given) (w : World) (r : HasRun given w) where
         turn_finds given me vector (message_outcome given w me from (msg.Grant vector head tail)).body (lines_after from (msg.Grant vector head tail) first)
     tasks_found from (msg.ElemAck vector position got) first =
         turn_finds given me vector (message_outcome given w me from (msg.ElemAck vector position got)).body
-            (lines_after from (msg.ElemAck vector position got) first)
+        (lines_after from (msg.ElemAck vector position got) first)
     tasks_found from _ first = tt
 
     message_finds : (from : ℕ) (m : Msg) → IsFirstLetter given w me from m → MessageFinds given w me from m

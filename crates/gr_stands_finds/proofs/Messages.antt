@@ -105,33 +105,33 @@ module _ (given : Given) (w : World) (r : HasRun given w) (me from : ℕ) (m : M
 
 -- What a granted turn pushes fits.
 module _ (given : Given) (w : World) (r : HasRun given w) (me from number head tail : ℕ) (first : IsFirstLetter given w me from (msg.Grant number head tail))
-    where
-  abbrev ends : Ends
-  ends = r.parts.ends number
+  where
+    abbrev ends : Ends
+    ends = r.parts.ends number
 
-  pushes_fit : is_vector (thing (machine_in given) number) ≡ true → PushesFit (bodies w me) number ends
-  pushes_fit is calls more groups = by ((bodies w me).vectors.vectors number) refl groups
-    where
-      told : GrantTells given w me (msg.Grant number head tail)
-      told = r.guards.grants me from (msg.Grant number head tail) first
+    pushes_fit : is_vector (thing (machine_in given) number) ≡ true → PushesFit (bodies w me) number ends
+    pushes_fit is calls more groups = by ((bodies w me).vectors.vectors number) refl groups
+      where
+        told : GrantTells given w me (msg.Grant number head tail)
+        told = r.guards.grants me from (msg.Grant number head tail) first
 
-      by : (held : Option Vector) → (bodies w me).vectors.vectors number ≡ held → (vector_in held).groups ≡ calls ∷ more
-          → ends.tail + length (calls_of kind.Push calls) < 2 ^ 64
-      by None there g = absurd (no_group calls more g)
-      by (Some vector) there g = by_turn vector.turn refl
-        where
-          by_turn : (turn : Option Turn) → vector.turn ≡ turn → ends.tail + length (calls_of kind.Push calls) < 2 ^ 64
-          by_turn (Some turn) mine = absurd (omega (
-            arith,
-            no_turn given w _ number me ends (r.parts.turns number is) head tail from (quietly (bodies w me))
-                (quiet given w r me from (msg.Grant number head tail) first),
-            ap (λ (o : Option Vector). option_len (vector_in o).turn) there,
-            ap option_len mine,
-          ))
-          by_turn None mine = subst (λ (k : ℕ). k + length (calls_of kind.Push calls) < 2 ^ 64)
-              (where_granted given w _ number me ends (r.parts.turns number is) head tail from (quietly (bodies w me))
-                  (quiet given w r me from (msg.Grant number head tail) first)).1
-              (lower (tail + length (calls_of kind.Push calls)) (2 ^ 64) (told vector calls more there mine g))
+        by : (held : Option Vector) → (bodies w me).vectors.vectors number ≡ held → (vector_in held).groups ≡ calls ∷ more
+            → ends.tail + length (calls_of kind.Push calls) < 2 ^ 64
+        by None there g = absurd (no_group calls more g)
+        by (Some vector) there g = by_turn vector.turn refl
+          where
+            by_turn : (turn : Option Turn) → vector.turn ≡ turn → ends.tail + length (calls_of kind.Push calls) < 2 ^ 64
+            by_turn (Some turn) mine = absurd (omega (
+              arith,
+              no_turn given w _ number me ends (r.parts.turns number is) head tail from (quietly (bodies w me))
+                  (quiet given w r me from (msg.Grant number head tail) first),
+              ap (λ (o : Option Vector). option_len (vector_in o).turn) there,
+              ap option_len mine,
+            ))
+            by_turn None mine = subst (λ (k : ℕ). k + length (calls_of kind.Push calls) < 2 ^ 64)
+                (where_granted given w _ number me ends (r.parts.turns number is) head tail from (quietly (bodies w me))
+                (quiet given w r me from (msg.Grant number head tail) first)).1
+                (lower (tail + length (calls_of kind.Push calls)) (2 ^ 64) (told vector calls more there mine g))
 
 -- ---- a message of a batch
 
@@ -173,10 +173,10 @@ module _ (given : Given) (w : World) (r : HasRun given w) (me from : ℕ) (scope
           record { outcome = made.outcome; is = made.acts }
       last master there one (Some (waiter.Task slot)) e =
           let by : IsWaitedForBy (bodies w me) scope slot =
-              subst (WaiterStands (bodies w me) scope) e ((r.parts.scopes.cores me).masters scope master there).waiter in
+          subst (WaiterStands (bodies w me) scope) e ((r.parts.scopes.cores me).masters scope master there).waiter in
           let held = ((r.parts.scopes.cores me).slots slot by.task by.there).held in
           let made = waiters_pass given r.parts.names w r.state me from scope master slot by.task held.holder
-              (stands given w r me from (msg.Leave scope) first) first there one e by.there held.there in
+          (stands given w r me from (msg.Leave scope) first) first there one e by.there held.there in
           record { outcome = made.outcome; is = made.acts }
 
 -- ---- each message
@@ -199,7 +199,7 @@ module _ (given : Given) (w : World) (r : HasRun given w) (me from : ℕ) where
   pub served : (m : Msg) → First m → IsMade (serves (machine_in given) me (bodies w me) from m)
   served (msg.Request slot id operation x y z) first =
       let made = requests_are_made given w r.state me from slot id operation x y z r.sound r.all.stands first in
-          record { outcome = made.outcome; is = made.acts }
+      record { outcome = made.outcome; is = made.acts }
   served (msg.Reply slot id one two) first = let made = replies_are_taken given w r.state me from slot id one two r.sound r.all.stands first in
       record { outcome = made.outcome; is = made.acts }
   served (msg.Spawn work) first = record { outcome = spawned (bodies w me) work; is = refl }
@@ -216,7 +216,7 @@ module _ (given : Given) (w : World) (r : HasRun given w) (me from : ℕ) where
   served (msg.StealGive work) first = gives_unit work first
   served (msg.Batch object key effect batch) first =
       let made = batches_take_effect given r.sent w r.state me from object key effect batch r.sound (heap_apart given r.accepted.accepted) r.all.stands
-          r.parts.batches first in
+      r.parts.batches first in
       record { outcome = made.outcome; is = made.acts }
   served (msg.BatchReply batch before) first = comes_back given w r me from batch before first
   served (msg.Turn vector) first = token given w r me from (msg.Turn vector) first vector (λ off. off.0 refl) (λ is. tt) refl

@@ -141,7 +141,7 @@ module _ (given : Given) (w : World) (S : State) (me slot : ℕ) (task : Suspend
     action_finds (action.Spawn way target args) is fits = inl (choice Stays (has_core machine.setup.cores way) _ _
         (sure Stays _ _ _ told.enrols
         (enrols_stays (with_count body (innermost task) (enrolled (body.scopes.counts (innermost task)) slot)) way target args
-            (enrol_answer (body.scopes.counts (innermost task)))))
+        (enrol_answer (body.scopes.counts (innermost task)))))
         (ap is_some (put_same body.tasks.slots slot (Some _))))
     action_finds action.Finish is fits = inl (sure Stays _ _ _ told.opens (ap is_some (put_same body.tasks.slots slot (Some _))))
     action_finds action.Arrive is fits = inl (arrived_stays (told.arrives is))

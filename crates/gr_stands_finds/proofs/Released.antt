@@ -97,7 +97,7 @@ module _ (given : Given) (before : runs.World) (r : HasRun given (world_in befor
       served_as who waits =
           ap (core_left (machine_in given) (bodies w me) scope) there
           ∙ ap (λ (b : Bool). if b then left_with (machine_in given) (bodies w me) scope (release_of (released (Some master))) else None)
-              (positive master.active one)
+          (positive master.active one)
           ∙ ap (λ (b : Bool). left_with (machine_in given) (bodies w me) scope (release_of (if b then master.waiter else None))) (equal master.active 1 one)
           ∙ ap (λ (o : Option Waiter). left_with (machine_in given) (bodies w me) scope (release_of o)) waits
 
@@ -114,12 +114,14 @@ module _ (given : Given) (before : runs.World) (r : HasRun given (world_in befor
         waits = e;
         released =
             let made = event (over (bodies w me) scope) (served_as waiter.Root e) in
-            record { marks = made.marks;
-                halted = ap (λ (b : Body). b.stops.passed) (body_after given before after me clock _ (over (bodies w me) scope) made tt (r.all.waiters me)) };
+            record {
+              marks = made.marks;
+              halted = ap (λ (b : Body). b.stops.passed) (body_after given before after me clock _ (over (bodies w me) scope) made tt (r.all.waiters me));
+            };
       }
       by (Some (waiter.Task slot)) e =
           let f : IsWaitedForBy (bodies w me) scope slot =
-              subst (WaiterStands (bodies w me) scope) e ((r.parts.scopes.cores me).masters scope master there).waiter in
+          subst (WaiterStands (bodies w me) scope) e ((r.parts.scopes.cores me).masters scope master there).waiter in
           let e_pass = passes (machine_in given) (with_leave (bodies w me) scope) slot f.task in
           let is : serves (machine_in given) me (bodies w me) from (msg.Leave scope) ≡ Some e_pass =
           served_as (waiter.Task slot) e
@@ -140,43 +142,43 @@ module _ (given : Given) (before : runs.World) (r : HasRun given (world_in befor
 
   module _ (me slot : ℕ) (task : Suspended) (scope : ScopeId) (outer : List ScopeId) (master : Master) (opened : task.opened ≡ scope ∷ outer)
       (last : left_of ((bodies w me).scopes.counts scope) 1 ≡ rest.Zero) (there : (bodies w me).scopes.masters scope ≡ Some master) (one : master.active ≡ 1)
-          where
-    abbrev body : Body
-    body = without_ready (bodies w me)
+    where
+      abbrev body : Body
+      body = without_ready (bodies w me)
 
-    abbrev left : Body
-    left = arrived body scope slot
+      abbrev left : Body
+      left = arrived body scope slot
 
-    abbrev gone : Outcome
-    gone = passes (machine_in given) (with_leave left scope) slot task
+      abbrev gone : Outcome
+      gone = passes (machine_in given) (with_leave left scope) slot task
 
-    first_same : (one other : ScopeId) (more others : List ScopeId) → one ∷ more ≡ other ∷ others → one ≡ other
-    first_same one other more others e = cc
+      first_same : (one other : ScopeId) (more others : List ScopeId) → one ∷ more ≡ other ∷ others → one ≡ other
+      first_same one other more others e = cc
 
-    can : ArrivalTells w r.state me slot task → can_arrive body scope ≡ true
-    can a = subst (λ (x : ScopeId). can_arrive body x ≡ true) (first_same a.scope scope a.outer outer (sym a.opened ∙ opened)) a.can
+      can : ArrivalTells w r.state me slot task → can_arrive body scope ≡ true
+      can a = subst (λ (x : ScopeId). can_arrive body x ≡ true) (first_same a.scope scope a.outer outer (sym a.opened ∙ opened)) a.can
 
-    waited : left.scopes.masters scope ≡ Some (wait_for (waiter.Task slot) master)
-    waited = put_scope_at body.scopes.masters scope (option_map (wait_for (waiter.Task slot)) (body.scopes.masters scope))
-        ∙ ap (option_map (wait_for (waiter.Task slot))) there
+      waited : left.scopes.masters scope ≡ Some (wait_for (waiter.Task slot) master)
+      waited = put_scope_at body.scopes.masters scope (option_map (wait_for (waiter.Task slot)) (body.scopes.masters scope))
+          ∙ ap (option_map (wait_for (waiter.Task slot))) there
 
-    releases : released (left.scopes.masters scope) ≡ Some (waiter.Task slot)
-    releases = ap released waited ∙ ap (λ (b : Bool). if b then Some (waiter.Task slot) else None) (equal master.active 1 one)
+      releases : released (left.scopes.masters scope) ≡ Some (waiter.Task slot)
+      releases = ap released waited ∙ ap (λ (b : Bool). if b then Some (waiter.Task slot) else None) (equal master.active 1 one)
 
-    arrives_is : ArrivalTells w r.state me slot task → arrives (machine_in given) body slot task task.opened ≡ gone
-    arrives_is a =
-        ap (arrives (machine_in given) body slot task) opened
-        ∙ ap (λ (b : Bool). if b then arrives_with (machine_in given) left slot task scope (left_of (body.scopes.counts scope) 1) else dropped body slot)
-            (can a)
-        ∙ ap (arrives_with (machine_in given) left slot task scope) last
-        ∙ ap (λ (o : Option Waiter). arrives_last (machine_in given) left slot task scope (release_of o)) releases
+      arrives_is : ArrivalTells w r.state me slot task → arrives (machine_in given) body slot task task.opened ≡ gone
+      arrives_is a =
+          ap (arrives (machine_in given) body slot task) opened
+          ∙ ap (λ (b : Bool). if b then arrives_with (machine_in given) left slot task scope (left_of (body.scopes.counts scope) 1) else dropped body slot)
+          (can a)
+          ∙ ap (arrives_with (machine_in given) left slot task scope) last
+          ∙ ap (λ (o : Option Waiter). arrives_last (machine_in given) left slot task scope (release_of o)) releases
 
   arrival_passes : ArrivalsPass given before
   arrival_passes after me slot clock more slots scope outer master task goes first due opened last there one =
       let ran = tasks_run (machine_in given) before after me clock slot more slots task goes first.ready first.there in
       let a = ((told given w r me ran.here).scopes slot more task first).arrives due in
       let is = ap (acts (machine_in given) me (without_ready (bodies w me)) slot task) due
-          ∙ arrives_is me slot task scope outer master opened last there one a in
+      ∙ arrives_is me slot task scope outer master opened last there one a in
       passed given before after me slot clock [] (with_leave (left me slot task scope outer master opened last there one) scope) task
       (subst (ActsThenGives (machine_in given) before after me clock []) is ran) (r.all.waiters me)
 

@@ -80,7 +80,7 @@ has_run given sound accepted short literals slot steps world low fit goes =
     let run : RunHolds given (Rest given) world =
     invariants_hold given (length steps) (BoundsAfter given) (Rest given) (GoOn given) sound
     (named_parts given (length steps) (parts_are_invariant given (length steps) sound accepted (omega (arith, few)) literals)) slot steps world low fit
-        (omega (arith)) goes in
+    (omega (arith)) goes in
     record {
       sound = sound;
       accepted = accepted;

@@ -106,7 +106,7 @@ module _ (given : Given) where
     serve_names v acts old = kept w v me (letter from message ∷ []) (message_outcome given w me from message) acts (λ number missing.
         served_off number
         (facts_off given.setup.cores w v me (letter from message ∷ []) (message_outcome given w me from message) acts (λ source to m. IsOff number m)
-            (old number missing)).0.0
+        (old number missing)).0.0
         (serves machine me body from message) refl) old
 
   -- ---- the end of a turn, gifts, a Close, a Steal
@@ -163,7 +163,7 @@ module _ (given : Given) where
   pub gift_names : (w v : World) (me : ℕ) → Acts given.setup.cores w v me [] (gives (bodies w me)) → NamesVectors given w → NamesVectors given v
   gift_names w v me acts = kept w v me [] (gives (bodies w me)) acts (λ number missing.
       both number (gives (bodies w me)).sends (turn_closes.gifts_leave number (bodies w me)).sends
-          (element_closes.gifts_leave number (bodies w me)).elements.sends)
+      (element_closes.gifts_leave number (bodies w me)).elements.sends)
 
   pub ask_names : (w v : World) (me victim : ℕ) → Acts given.setup.cores w v me [] (asks victim (bodies w me)) → NamesVectors given w → NamesVectors given v
   ask_names w v me victim acts = kept w v me [] (asks victim (bodies w me)) acts (λ number missing. ((tt, tt), tt))
