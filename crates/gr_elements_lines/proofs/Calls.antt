@@ -18,21 +18,10 @@ use Rattle.gr_lang.specs.declared.action.TrapKind.TheVariants as trap
 use Rattle.gr_lang.specs.Objects.{Object, line, Objects, address, at_address, on_line, on_key, at_object, call, start_for, alloc_at}
 use Rattle.gr_lang.specs.States.{Task, Range, Scope, State, is_going, is_at_loop}
 use Rattle.gr_lang.specs.Steps.{step, when, called, call_step, spawn_step, finish_step, loop_step, begin_in, begin_at, begin_step, pass_from, arrive_step, pass_step, end_step, trap_step, of_task, if_going}
+use Rattle.gr_stands_turns.proofs.Lines.{set_other, set_there}
 use Rattle.gr_elements_lines.specs.Lines.{HasLine, LeavesLine, EntryLeaves}
 
 -- ---- lists
-
-set_other : {X : Type 0} (xs : List X) (i j : ℕ) (x : X) → j ≢ i → slice_get (slice_set xs i x) j ≡ slice_get xs j
-set_other [] i j x ne = refl
-set_other (z ∷ xs) zero zero x ne = absurd (ne refl)
-set_other (z ∷ xs) zero (suc j) x ne = refl
-set_other (z ∷ xs) (suc i) zero x ne = refl
-set_other (z ∷ xs) (suc i) (suc j) x ne = set_other xs i j x (λ q. ne (ap suc q))
-
-set_there : {X : Type 0} (xs : List X) (i : ℕ) (x y : X) → slice_get xs i ≡ Some y → slice_get (slice_set xs i x) i ≡ Some x
-set_there [] i x y e = absurd (cc)
-set_there (z ∷ xs) zero x y e = refl
-set_there (z ∷ xs) (suc i) x y e = set_there xs i x y e
 
 some_same : {X : Type 0} (x y : X) → Some x ≡ Some y → x ≡ y
 some_same x y e = cc

@@ -29,7 +29,7 @@ use Rattle.gr_stands_outcomes.specs.Marks.{entries_from}
 use Rattle.gr_stands_steps.specs.Telling.{message_outcome}
 use Rattle.gr_stands_made.specs.Pieces.{ran_at}
 use Rattle.gr_lines.specs.Lines.{vector_in, tasks_on}
-use Rattle.gr_lines.specs.Waiting.{IsWaiting, HasLines as HasCalls}
+use Rattle.gr_lines.specs.Waiting.{IsWaiting, HasWords as HasCalls}
 use Rattle.gr_lines_tokens.proofs.Served.{calls_of_vector}
 use Rattle.gr_elements_apart.specs.Leaving.{IsOfNoLine, IsMarkBehind, IsOffElements}
 use Rattle.gr_elements_apart.proofs.Runs.{tasks_leave, units_leave}
@@ -37,7 +37,7 @@ use Rattle.gr_elements_apart.proofs.Turns.{messages_leave}
 use Rattle.gr_elements_apart.proofs.Closes.{closes_leave}
 use Rattle.gr_elements_acts.specs.Holding.{words_behind}
 use Rattle.gr_elements_steps.specs.Behind.{words_of_one, words_settled}
-use Rattle.gr_elements_lines.specs.Lines.{HasLine, HasLines, EntryLeaves}
+use Rattle.gr_elements_lines.specs.Lines.{HasLine, HasWords, EntryLeaves}
 use Rattle.gr_elements_lines.specs.Laws as laws
 use Rattle.gr_elements_lines.specs.Laws.{Leads}
 use Rattle.gr_elements_lines.proofs.Entries.{after_leaves, marks_leave, behind_leave, calls_leave, calls_made, replies_long}
@@ -50,7 +50,7 @@ some_same x y e = cc
 
 -- The entries of these marks leave each vector.
 all_leave : (given : Given) (sent : Sent) (S N : State) (me : ℕ) (e : Outcome) (words : ℕ → List ℕ) → Leads given sent me S N e
-    → ((number : ℕ) → Each (EntryLeaves number) (entries_from sent me e.marks)) → HasLines given S words → HasLines given N words
+    → ((number : ℕ) → Each (EntryLeaves number) (entries_from sent me e.marks)) → HasWords given S words → HasWords given N words
 all_leave given sent S N me e words leads leaves old number is =
     after_leaves given.program given.setup.cores given.setup.steps number (entries_from sent me e.marks) S N (words number) leads (leaves number) (old number is)
 

@@ -12,7 +12,7 @@ use Rattle.gr_stands_steps.specs.Telling.{message_outcome}
 use Rattle.gr_stands_made.specs.Pieces.{ran_at, ended_at}
 use Rattle.gr_lines.specs.Waiting.{LinesStand}
 use Rattle.gr_elements_steps.specs.Behind.{words_settled}
-use Rattle.gr_elements_lines.specs.Lines.{HasLines, BatchIsOff}
+use Rattle.gr_elements_lines.specs.Lines.{HasWords, BatchIsOff}
 
 -- The entries of an outcome's marks at a core lead from one plain state to the other.
 abbrev pub Leads : Given → Sent → ℕ → State → State → Outcome → Type 0
@@ -22,24 +22,24 @@ Leads given sent me state next outcome = after given.program given.setup.cores g
 abbrev pub RunsKeepWords : Type 0
 RunsKeepWords =
     (given : Given) (sent : Sent) (world : World) (state next : State) (me : ℕ) (slots : List ℕ) (words : ℕ → List ℕ)
-    → Leads given sent me state next (ran_at given world me slots) → HasLines given state words → HasLines given next words
+    → Leads given sent me state next (ran_at given world me slots) → HasWords given state words → HasWords given next words
 
 -- So does what is found to do with a message.
 abbrev pub ServesKeepWords : Type 0
 ServesKeepWords =
     (given : Given) (sent : Sent) (world : World) (state next : State) (me from : ℕ) (message : Msg) (words : ℕ → List ℕ)
     → Leads given sent me state next (message_outcome given world me from message) → BatchIsOff sent from message
-    → HasLines given state words → HasLines given next words
+    → HasWords given state words → HasWords given next words
 
 -- So does a Close.
 abbrev pub ClosesKeepWords : Type 0
 ClosesKeepWords =
     (given : Given) (sent : Sent) (world : World) (state next : State) (me object : ℕ) (words : ℕ → List ℕ)
-    → Leads given sent me state next (closes (machine_in given) (bodies world me) object) → HasLines given state words → HasLines given next words
+    → Leads given sent me state next (closes (machine_in given) (bodies world me) object) → HasWords given state words → HasWords given next words
 
 -- A turn that ends behind a message makes its calls.
 abbrev pub SettlesKeepWords : Type 0
 SettlesKeepWords =
     (given : Given) (sent : Sent) (world : World) (state next : State) (me : ℕ) (message : Msg) (words : ℕ → List ℕ)
     → Leads given sent me state next (ended_at given world me message) → LinesStand given world
-    → HasLines given state words → HasLines given next (words_settled (bodies world me) message words)
+    → HasWords given state words → HasWords given next (words_settled (bodies world me) message words)

@@ -20,8 +20,8 @@ abbrev pub HasLine : ℕ → List ℕ → State → Type 0
 HasLine number words state = slice_get state.objects.things number ≡ Some (line words)
 
 -- So it is of each vector.
-abbrev pub HasLines : Given → State → (ℕ → List ℕ) → Type 0
-HasLines given state words = (number : ℕ) → is_vector (thing (machine_in given) number) ≡ true → HasLine number (words number) state
+abbrev pub HasWords : Given → State → (ℕ → List ℕ) → Type 0
+HasWords given state words = (number : ℕ) → is_vector (thing (machine_in given) number) ≡ true → HasLine number (words number) state
 
 -- The call is none of this vector, and so is an entry.
 abbrev pub LeavesLine : ℕ → Op → Type 0

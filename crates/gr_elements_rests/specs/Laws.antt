@@ -12,7 +12,7 @@ use Rattle.gr_stands.specs.Stands.{Stands}
 use Rattle.gr_stands_contents.specs.Rests.{VectorsRest}
 use Rattle.gr_lines.specs.Waiting.{LinesStand}
 use Rattle.gr_lines_turns.specs.Tokens.{vector_at, TurnsStand}
-use Rattle.gr_elements_lines.specs.Lines.{HasLines}
+use Rattle.gr_elements_lines.specs.Lines.{HasWords}
 use Rattle.gr_elements_steps.specs.Behind.{ElementsHold}
 
 -- Each turn that a core has of a vector has no calls.
@@ -35,5 +35,5 @@ TurnsPutAsPlanned given world =
 abbrev pub RestsAreFound : Type 0
 RestsAreFound =
     (given : Given) (world : World) (state : State) (ends : ℕ → Ends) (words : ℕ → List ℕ)
-    → Stands given world state → LinesStand given world → TurnsStand given world ends → ElementsHold given world ends words → HasLines given state words
+    → Stands given world state → LinesStand given world → TurnsStand given world ends → ElementsHold given world ends words → HasWords given state words
     → TurnsPutAsPlanned given world → NoTurnHasCalls given world → VectorsRest given (bodies world) state.objects

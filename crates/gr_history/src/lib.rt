@@ -1,10 +1,12 @@
-//! The history of a run: it is one of the plain memory, and it tells how the run ended.
+//! The history of a run and what its objects hold: both are those of the plain memory.
 #![tactic(auto)]
 
 mod batches;
+mod gathering;
 mod histories;
 mod laws;
 mod marks;
 
+pub use gathering::contents;
 pub use histories::history;
 pub use laws::runs_agree;

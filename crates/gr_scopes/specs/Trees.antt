@@ -62,6 +62,10 @@ Rises scope top (one ∷ more) = (one < top) × Rises scope one more
 abbrev pub Names : Type 0
 Names = ℕ → Option ScopeId
 
+-- Scopes keep their names, and there may be more.
+abbrev pub NamesGrow : Names → Names → Type 0
+NamesGrow names more = (number : ℕ) (scope : ScopeId) → names number ≡ Some scope → more number ≡ Some scope
+
 -- The task of this name stands in the scope of this name in the plain state, and has opened the scopes of these names.
 pub record IsHeld (names : Names) (tree : Tree) (id : TaskId) (scope : ScopeId) (opened : List ScopeId) : Type 0 where
   pub holder : Holder

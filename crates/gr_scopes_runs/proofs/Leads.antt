@@ -10,14 +10,14 @@ use Rattle.gr_machine.specs.States.{Letter}
 use Rattle.gr_machine.specs.Outcomes.{Outcome, marked}
 use Rattle.gr_machine.specs.Histories.{Sent}
 use Rattle.gr_stands.specs.Worlds.{Given, World}
-use Rattle.gr_scopes.specs.Trees.{Tree, Names, tree_of}
+use Rattle.gr_scopes.specs.Trees.{Tree, Names, tree_of, NamesGrow}
 use Rattle.gr_scopes.specs.Scopes.{ScopesStand}
 use Rattle.gr_scopes_opens.specs.Keeping.{KeepsScopes}
 use Rattle.gr_scopes_opens.proofs.Common.{some_same}
 use Rattle.gr_scopes_trees.specs.Laws.{Leads}
 use Rattle.gr_scopes_entries.specs.Marks.{LeadsBy}
 use Rattle.gr_scopes_entries.proofs.Trees.{one_mark_is_one_step}
-use Rattle.gr_scopes_runs.specs.Leading.{NamesGrow, KeepsGrown, KeepsLeading}
+use Rattle.gr_scopes_runs.specs.Leading.{KeepsGrown, KeepsLeading}
 
 module _ (given : Given) (sent : Sent) (names : Names) (w : World) (S : State) (me : ℕ) (got : List Letter) (e : Outcome) where
   pub grown : (T : State) (more : Names) (tree : Tree) → NamesGrow names more → tree_of T ≡ tree → KeepsScopes given w me got e more tree → KeepsGrown given names w me got e T

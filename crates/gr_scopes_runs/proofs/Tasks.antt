@@ -24,7 +24,7 @@ use Rattle.gr_stands_calls.specs.Acting.{IsFirst}
 use Rattle.gr_stands_calls.proofs.Common.{first_stands}
 use Rattle.gr_stands_runs.specs.Telling.{VectorsStand}
 use Rattle.gr_stands_runs.proofs.Calls.{calls_run}
-use Rattle.gr_scopes.specs.Trees.{Holder, tree_of, with_opened, with_empty, with_passed, Names}
+use Rattle.gr_scopes.specs.Trees.{Holder, tree_of, with_opened, with_empty, with_passed, Names, NamesGrow}
 use Rattle.gr_scopes_opens.specs.Keeping.{KeepsScopes, IsNext}
 use Rattle.gr_scopes_opens.specs.Laws.{with_own}
 use Rattle.gr_scopes_opens.proofs.Common.{some_same}
@@ -36,7 +36,7 @@ use Rattle.gr_scopes_stays.proofs.Made.{calls_keep_scopes, traps_keep_scopes, em
 use Rattle.gr_scopes_trees.proofs.Steps.{ends_leave_trees, traps_leave_trees, finishes_open_scopes, loops_open_scopes, empty_loops_leave_scopes, passes_leave_scopes}
 use Rattle.gr_scopes_tells.specs.Told.{StandsTold}
 use Rattle.gr_scopes_tells.proofs.Tasks.{tasks_are_told}
-use Rattle.gr_scopes_runs.specs.Leading.{NamesGrow, KeepsLeading}
+use Rattle.gr_scopes_runs.specs.Leading.{KeepsLeading}
 use Rattle.gr_scopes_runs.specs.Laws as laws
 use Rattle.gr_scopes_runs.proofs.Leads.{grown, leads_as, leads_none, leads_one, Between, leads_two}
 use Rattle.gr_scopes_runs.proofs.Spawns.{spawn_leads}

@@ -8,13 +8,9 @@ use Rattle.gr_machine.specs.States.{Letter}
 use Rattle.gr_machine.specs.Outcomes.{Outcome}
 use Rattle.gr_machine.specs.Histories.{Sent}
 use Rattle.gr_stands.specs.Worlds.{Given, World}
-use Rattle.gr_scopes.specs.Trees.{Names, tree_of}
+use Rattle.gr_scopes.specs.Trees.{Names, tree_of, NamesGrow}
 use Rattle.gr_scopes_opens.specs.Keeping.{KeepsScopes}
 use Rattle.gr_scopes_entries.specs.Marks.{LeadsBy}
-
--- Scopes keep their names, and there may be more.
-abbrev pub NamesGrow : Names → Names → Type 0
-NamesGrow names more = (number : ℕ) (scope : ScopeId) → names number ≡ Some scope → more number ≡ Some scope
 
 -- With names that have grown from these, the outcome at the core keeps the part of scopes, which is that of this plain state from then on.
 pub record KeepsGrown (given : Given) (names : Names) (world : World) (me : ℕ) (got : List Letter) (outcome : Outcome) (next : State) : Type 0 where

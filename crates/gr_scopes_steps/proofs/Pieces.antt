@@ -120,7 +120,7 @@ move_pieces_keep_scopes given names w v S moves scopes =
 
 -- ---- calls
 
-pub askers_call : laws.AskersCall
+pub askers_call : laws.AskersMakeCalls
 askers_call given names w tree core slot task scopes there told = by task.waits ((scopes.cores core).slots slot task there).waits told
   where
     by : (x : Waits) → WaitStands given (bodies w core) slot task x → is_told x ≡ 1 → IsCall task.action

@@ -79,7 +79,7 @@ PiecesKeepScopes =
     (λ sent world state. ScopesHold given world state)
 
 -- A task of whose call a message may tell makes a call next.
-abbrev pub AskersCall : Type 0
-AskersCall =
+abbrev pub AskersMakeCalls : Type 0
+AskersMakeCalls =
     (given : Given) (names : Names) (world : World) (tree : Tree) (core slot : ℕ) (task : Suspended)
     → ScopesStand given names world tree → (bodies world core).tasks.slots slot ≡ Some task → is_told task.waits ≡ 1 → IsCall task.action

@@ -8,12 +8,12 @@ use Rattle.gr_msg.specs.declared.message.Unit.TheVariants as unit
 use Rattle.gr_machine.specs.Runs.{first_unit}
 use Rattle.gr_stands.specs.Worlds.{Given, World, bodies}
 use Rattle.gr_stands_made.specs.Rows.{IsSoundChunk}
-use Rattle.gr_scopes.specs.Trees.{Names, tree_of}
+use Rattle.gr_scopes.specs.Trees.{Names, tree_of, NamesGrow}
 use Rattle.gr_scopes.specs.Scopes.{ScopesStand}
 use Rattle.gr_scopes_stays.specs.Stays.{BatchIsApart}
 use Rattle.gr_scopes_finished.specs.Counted.{IndicesTell}
 use Rattle.gr_scopes_tells.specs.Told.{CountsFit}
-use Rattle.gr_scopes_runs.specs.Leading.{NamesGrow, IsInLoop}
+use Rattle.gr_scopes_runs.specs.Leading.{IsInLoop}
 use Rattle.gr_scopes_serves.specs.Serving.{MasterFits}
 
 -- A fact of the part of work, of a chunk that comes next at a core: it may be taken up, and its scope is that of its loop.

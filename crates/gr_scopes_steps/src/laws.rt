@@ -20,5 +20,5 @@ pub fn scopes_keep_standing()
 
 /// A task of whose call a message may tell makes a call next.
 pub fn askers_call()
-    ensures { laws.AskersCall }
+    ensures { laws.AskersMakeCalls }
 {}

@@ -10,7 +10,7 @@ use Rattle.gr_stands.specs.Worlds.{Given, World, bodies, of_letters, of_sends, A
 use Rattle.gr_stands.specs.Censuses.{carried}
 use Rattle.gr_stands.specs.Calls.{times}
 use Rattle.gr_stands_events.specs.Laws.{WaitersAreCores}
-use Rattle.gr_scopes.specs.Trees.{Names}
+use Rattle.gr_scopes.specs.Trees.{Names, NamesGrow}
 use Rattle.gr_shares.specs.Loops.{Loop, Loops, left_in, left_at, LoopsStand}
 use Rattle.gr_shares.specs.Shares.{covers, is_question, one_if, UnitShares, MessageShares, SharesHold, SharesStand}
 
@@ -26,13 +26,9 @@ pub record GoesOn (loops : Loops) (owner : TaskId) (loop : Loop) : Type 0 where
 abbrev pub AllBegun : Loop → Type 0
 AllBegun loop = (index : ℕ) → left_in loop.range index ≡ 0
 
--- Scopes keep their names.
-abbrev pub KeepsNames : Names → Names → Type 0
-KeepsNames names more = (number : ℕ) (scope : ScopeId) → names number ≡ Some scope → more number ≡ Some scope
-
 -- Each loop goes on, or all of it has begun; and scopes keep their names.
 pub record KeepsLoops (names more : Names) (before after : Loops) : Type 0 where
-  pub named : KeepsNames names more
+  pub named : NamesGrow names more
   pub kept : (owner : TaskId) (loop : Loop) → before owner ≡ Some loop → GoesOn after owner loop ⊎ AllBegun loop
   pub stands : LoopsStand after
 

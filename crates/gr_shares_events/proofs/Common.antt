@@ -14,10 +14,10 @@ use Rattle.gr_stands.specs.Worlds.{Given, World, bodies, in_flight}
 use Rattle.gr_stands.proofs.Worlds.{moved_bodies, moved_flow, moved_facts, moved_census}
 use Rattle.gr_stands_events.specs.Laws.{WaitersAreCores}
 use Rattle.gr_stands_outcomes.specs.Marks.{entries_from}
-use Rattle.gr_scopes.specs.Trees.{Holder, Names, holder_of}
+use Rattle.gr_scopes.specs.Trees.{Holder, Names, holder_of, NamesGrow}
 use Rattle.gr_shares.specs.Loops.{Loops, loops_of}
 use Rattle.gr_shares.specs.Shares.{covers, units_only, is_question, UnitShares, MessageShares, SharesHold}
-use Rattle.gr_shares.specs.ShareActs.{KeepsNames, KeepsLoops, asked_by, waits_for}
+use Rattle.gr_shares.specs.ShareActs.{KeepsLoops, asked_by, waits_for}
 use Rattle.gr_shares.proofs.Opening.{openings_have_shares}
 use Rattle.gr_shares.proofs.Kept.{IsFree, IsFreeIn, units_free, unit_still, message_still}
 use Rattle.gr_shares_steals.specs.Sharing.{KeepsShares}
@@ -32,7 +32,7 @@ use Rattle.gr_shares_events.specs.Laws as laws
 
 -- ---- more names
 
-pub hold_named : (given : Given) (names more : Names) (w : World) (L : Loops) → KeepsNames names more → SharesHold given names w L → SharesHold given more w L
+pub hold_named : (given : Given) (names more : Names) (w : World) (L : Loops) → NamesGrow names more → SharesHold given names w L → SharesHold given more w L
 hold_named given names more w L named old =
     let keeps : KeepsLoops names more L L = record { named = named; kept = (keeps_same names L old.ranges).kept; stands = old.ranges } in
     let free = units_free given names w L old in
@@ -86,7 +86,7 @@ scopes_tell_names given names w S stands core slot task plain at there =
 -- ---- from outcomes to what is kept
 
 module _ (given : Given) (sent : Sent) (names more : Names) (w v : World) (S T : State) (me : ℕ) (got : List Letter) (e : Outcome) (led : Leads given sent w v S T me got e)
-    (named : KeepsNames names more) (old : WorkHolds given names w S) where
+    (named : NamesGrow names more) (old : WorkHolds given names w S) where
   -- What is kept of ranges needs nothing of the outcome.
   pub holds_so : IsValid given.program S → SharesHold given more v (loops_of T) → WorkHolds given more v T
   holds_so valid shares = record {

@@ -14,10 +14,9 @@ use Rattle.gr_machine.proofs.ActionFacts.{choice}
 use Rattle.gr_stands.specs.Worlds.{Given, machine_in, World, bodies}
 use Rattle.gr_stands_calls.specs.Acting.{letter, IsFirstLetter}
 use Rattle.gr_stands_outcomes.specs.Inner.{outcome_of}
-use Rattle.gr_scopes.specs.Trees.{Names}
+use Rattle.gr_scopes.specs.Trees.{Names, NamesGrow}
 use Rattle.gr_shares.specs.Loops.{loops_of}
 use Rattle.gr_shares.specs.Shares.{MessageShares}
-use Rattle.gr_shares.specs.ShareActs.{KeepsNames}
 use Rattle.gr_shares_steals.specs.Sharing.{KeepsShares}
 use Rattle.gr_shares_steals.proofs.Common.{first_has}
 use Rattle.gr_shares_steals.proofs.Questions.{questions_are_asked, questions_wait, gifts_are_expected}
@@ -34,7 +33,7 @@ use Rattle.gr_shares_events.proofs.Common.{leaves_hold, quietly_holds}
 no_marks : (body : Body) (from : ℕ) (work : WorkUnit) → (outcome_of body (answered_by body from work)).marks ≡ []
 no_marks body from work = choice (λ (o : Option Outcome). (outcome_of body o).marks ≡ []) (body.steals.asked from) _ _ refl refl
 
-module _ (given : Given) (sent : Sent) (names more : Names) (w v : World) (S T : State) (me from : ℕ) (valid : IsValid given.program S) (named : KeepsNames names more) (old : WorkHolds given names w S) where
+module _ (given : Given) (sent : Sent) (names more : Names) (w v : World) (S T : State) (me from : ℕ) (valid : IsValid given.program S) (named : NamesGrow names more) (old : WorkHolds given names w S) where
   abbrev made : Msg → Outcome
   made m = outcome_of (bodies w me) (serves (machine_in given) me (bodies w me) from m)
 

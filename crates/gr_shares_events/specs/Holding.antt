@@ -8,10 +8,9 @@ use Rattle.gr_machine.specs.Outcomes.{Outcome}
 use Rattle.gr_machine.specs.Histories.{Sent}
 use Rattle.gr_stands.specs.Worlds.{Given, World, bodies, Acts}
 use Rattle.gr_stands_outcomes.specs.Marks.{entries_from}
-use Rattle.gr_scopes.specs.Trees.{Names}
+use Rattle.gr_scopes.specs.Trees.{Names, NamesGrow}
 use Rattle.gr_shares.specs.Loops.{loops_of}
 use Rattle.gr_shares.specs.Shares.{SharesHold}
-use Rattle.gr_shares.specs.ShareActs.{KeepsNames}
 use Rattle.gr_shares_ranges.specs.Ranges.{RangesStand}
 
 -- The units and the questions stand for the loops of the plain state, and each of its loops is waited at until all its indices have begun.
@@ -27,7 +26,7 @@ OpenedAreNamed names world state =
 
 -- Facts of the part of scopes: each scope keeps its name, and then those that are open have theirs.
 pub record NamesGoOn (names more : Names) (later : World) (next : State) : Type 0 where
-  pub named : KeepsNames names more
+  pub named : NamesGrow names more
   pub opened : OpenedAreNamed more later next
 
 -- An outcome at a core leads from one world to the other, and the entries of its marks from one plain state to the other.

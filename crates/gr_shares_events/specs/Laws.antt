@@ -14,9 +14,8 @@ use Rattle.gr_stands.specs.Actions.{ActionsFit}
 use Rattle.gr_stands.specs.Stands.{Stands}
 use Rattle.gr_stands_calls.specs.Acting.{letter, IsFirstLetter}
 use Rattle.gr_stands_outcomes.specs.Inner.{outcome_of, run_outcome}
-use Rattle.gr_scopes.specs.Trees.{Names, tree_of}
+use Rattle.gr_scopes.specs.Trees.{Names, tree_of, NamesGrow}
 use Rattle.gr_scopes.specs.Scopes.{ScopesStand}
-use Rattle.gr_shares.specs.ShareActs.{KeepsNames}
 use Rattle.gr_shares_events.specs.Holding.{WorkHolds, OpenedAreNamed, NamesGoOn, Leads}
 
 -- What a Run does first: a ready task acts, or a unit is taken up.
@@ -33,7 +32,7 @@ ServesKeepWork =
     (given : Given) (sent : Sent) (names more : Names) (before later : World) (state next : State) (me from : ℕ) (message : Msg)
     → IsFirstLetter given before me from message → IsValid given.program state
     → Leads given sent before later state next me (letter from message ∷ []) (outcome_of (bodies before me) (serves (machine_in given) me (bodies before me) from message))
-    → KeepsNames names more → WorkHolds given names before state → WorkHolds given more later next
+    → NamesGrow names more → WorkHolds given names before state → WorkHolds given more later next
 
 -- The end of a turn, after any message.
 abbrev pub EndsKeepWork : Type 0
@@ -41,26 +40,26 @@ EndsKeepWork =
     (given : Given) (sent : Sent) (names more : Names) (before later : World) (state next : State) (me : ℕ) (message : Msg)
     → IsValid given.program state
     → Leads given sent before later state next me [] (outcome_of (bodies before me) (settles (machine_in given) (bodies before me) message))
-    → KeepsNames names more → WorkHolds given names before state → WorkHolds given more later next
+    → NamesGrow names more → WorkHolds given names before state → WorkHolds given more later next
 
 abbrev pub ClosesKeepWork : Type 0
 ClosesKeepWork =
     (given : Given) (sent : Sent) (names more : Names) (before later : World) (state next : State) (me object : ℕ)
     → IsValid given.program state → Leads given sent before later state next me [] (closes (machine_in given) (bodies before me) object)
-    → KeepsNames names more → WorkHolds given names before state → WorkHolds given more later next
+    → NamesGrow names more → WorkHolds given names before state → WorkHolds given more later next
 
 -- Gifts, and a question for work that isn't out yet.
 abbrev pub GivesKeepWork : Type 0
 GivesKeepWork =
     (given : Given) (sent : Sent) (names more : Names) (before later : World) (state next : State) (me : ℕ)
     → Leads given sent before later state next me [] (gives (bodies before me))
-    → KeepsNames names more → WorkHolds given names before state → WorkHolds given more later next
+    → NamesGrow names more → WorkHolds given names before state → WorkHolds given more later next
 
 abbrev pub StealsKeepWork : Type 0
 StealsKeepWork =
     (given : Given) (sent : Sent) (names more : Names) (before later : World) (state next : State) (me victim : ℕ)
     → (bodies before me).steals.asked victim ≡ false → Leads given sent before later state next me [] (asks victim (bodies before me))
-    → KeepsNames names more → WorkHolds given names before state → WorkHolds given more later next
+    → NamesGrow names more → WorkHolds given names before state → WorkHolds given more later next
 
 abbrev pub OpeningsHoldWork : Type 0
 OpeningsHoldWork =
@@ -71,7 +70,7 @@ OpeningsHoldWork =
 abbrev pub MovesKeepWork : Type 0
 MovesKeepWork =
     (given : Given) (names more : Names) (before later : World) (state : State)
-    → Moves given.setup.cores before later → KeepsNames names more → WorkHolds given names before state → WorkHolds given more later state
+    → Moves given.setup.cores before later → NamesGrow names more → WorkHolds given names before state → WorkHolds given more later state
 
 -- The part of scopes tells how open scopes are named.
 abbrev pub ScopesTellNames : Type 0

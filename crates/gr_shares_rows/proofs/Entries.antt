@@ -19,9 +19,8 @@ use Rattle.gr_machine.specs.Histories.{Sent, entries_of, sent_after}
 use Rattle.gr_stands.specs.Worlds.{Given}
 use Rattle.gr_stands.proofs.Places.{cases_id}
 use Rattle.gr_stands_outcomes.specs.Marks.{entries_from}
-use Rattle.gr_scopes.specs.Trees.{Names}
+use Rattle.gr_scopes.specs.Trees.{Names, NamesGrow}
 use Rattle.gr_shares.specs.Loops.{Loop, Loops, loops_of, left_at, LoopsStand}
-use Rattle.gr_shares.specs.ShareActs.{KeepsNames}
 use Rattle.gr_shares_steals.proofs.Common.{keeps_same}
 use Rattle.gr_shares_loops.specs.Changes.{new_loop, OpensLoop, PassesLoop}
 use Rattle.gr_shares_loops.proofs.Tasks.{some_same, Found, found}
@@ -54,13 +53,13 @@ pub left_same : (names : Names) (L : Loops) → LoopsStand L → LeavesLeft name
 left_same names L stands = record { keeps = keeps_same names L stands; left = λ owner index. refl }
 
 -- More names.
-named_more : (names more : Names) (L M : Loops) → KeepsNames names more → LeavesLeft names names L M → LeavesLeft names more L M
+named_more : (names more : Names) (L M : Loops) → NamesGrow names more → LeavesLeft names names L M → LeavesLeft names more L M
 named_more names more L M named a = record { keeps = record { named = named; kept = a.keeps.kept; stands = a.keeps.stands }; left = a.left }
 
 -- ---- entries
 
 module _ (given : Given) (names : Names) where
-  abbrev same_names : KeepsNames names names
+  abbrev same_names : NamesGrow names names
   same_names = λ number scope h. h
 
   one_leaves : (S T : State) (what : Entry) → IsOfNoIndex what → LoopsStand (loops_of S) → step given.program given.setup.cores given.setup.steps S what ≡ Some T → LeavesLeft names names (loops_of S) (loops_of T)

@@ -19,9 +19,8 @@ use Rattle.gr_machine.specs.Histories.{Sent}
 use Rattle.gr_stands.specs.Worlds.{Given}
 use Rattle.gr_stands_outcomes.specs.Inner.{outcome_of}
 use Rattle.gr_stands_outcomes.specs.Marks.{entries_from}
-use Rattle.gr_scopes.specs.Trees.{Names}
+use Rattle.gr_scopes.specs.Trees.{Names, NamesGrow}
 use Rattle.gr_shares.specs.Loops.{LoopsStand, loops_of}
-use Rattle.gr_shares.specs.ShareActs.{KeepsNames}
 use Rattle.gr_shares_loops.specs.Changes.{ScopesAreThere}
 use Rattle.gr_shares_units.specs.Leaving.{IsOfNoShare, LeavesLeft}
 use Rattle.gr_shares_rows.specs.Rows.{IsNoLoop, MarksNoIndex, LeavesWork}
@@ -49,7 +48,7 @@ ClosesLeaveWork = (machine : Machine) (body : Body) (object : ℕ) → LeavesWor
 abbrev pub MarksLeaveLoops : Type 0
 MarksLeaveLoops =
     (given : Given) (sent : Sent) (names more : Names) (before after : State) (me : ℕ) (marks : List Mark)
-    → LoopsStand (loops_of before) → KeepsNames names more → Each MarksNoIndex marks
+    → LoopsStand (loops_of before) → NamesGrow names more → Each MarksNoIndex marks
     → lang.after given.program given.setup.cores given.setup.steps before (entries_from sent me marks) ≡ Some after
     → LeavesLeft names more (loops_of before) (loops_of after)
 
@@ -57,7 +56,7 @@ MarksLeaveLoops =
 abbrev pub EmptyLoopsLeaveLoops : Type 0
 EmptyLoopsLeaveLoops =
     (given : Given) (names more : Names) (before after : State) (id : TaskId) (task : Task) (lo hi grain target : ℕ) (args : List ℕ)
-    → LoopsStand (loops_of before) → KeepsNames names more → ScopesAreThere before
+    → LoopsStand (loops_of before) → NamesGrow names more → ScopesAreThere before
     → fin.get before.tasks id ≡ Some task → task.action ≡ action.Loop lo hi grain target args
     → lang.after given.program given.setup.cores given.setup.steps before (entry.Loop id lo hi grain target args ∷ entry.Pass id ∷ []) ≡ Some after
     → LeavesLeft names more (loops_of before) (loops_of after)

@@ -10,9 +10,9 @@ use Rattle.gr_lang.specs.declared.action.TaskId.{TaskId}
 use Rattle.gr_lang.specs.States.{Range, State}
 use Rattle.gr_machine.specs.Slots.{same_id}
 use Rattle.gr_stands.proofs.Places.{cases_id}
-use Rattle.gr_scopes.specs.Trees.{Names}
+use Rattle.gr_scopes.specs.Trees.{Names, NamesGrow}
 use Rattle.gr_shares.specs.Loops.{Loop, Loops, loops_of, within, left_in, left_at, BegunInside, LoopsStand}
-use Rattle.gr_shares.specs.ShareActs.{GoesOn, KeepsNames, KeepsLoops}
+use Rattle.gr_shares.specs.ShareActs.{GoesOn, KeepsLoops}
 use Rattle.gr_shares_loops.specs.Changes.{put_loop, new_loop, begun_at, OpensLoop, BeginsIndex, PassesLoop}
 use Rattle.gr_shares_loops.proofs.Counting.{with_one, either_true}
 use Rattle.gr_shares_loops.proofs.Tasks.{some_same, none_some, put_loop_at, put_loop_other}
@@ -22,7 +22,7 @@ use Rattle.gr_shares_units.specs.Laws as laws
 
 -- ---- the same loops
 
-pub keeps_pointwise : (names more : Names) (L M : Loops) → KeepsNames names more → LoopsStand L → ((q : TaskId) → M q ≡ L q) → KeepsLoops names more L M
+pub keeps_pointwise : (names more : Names) (L M : Loops) → NamesGrow names more → LoopsStand L → ((q : TaskId) → M q ≡ L q) → KeepsLoops names more L M
 keeps_pointwise names more L M named stands same = record {
   named = named;
   kept = λ owner loop h. inl (record { next = loop; there = same owner ∙ h; number = refl; target = refl; args = refl });
@@ -94,7 +94,7 @@ passes_share given names more S T id stands named e = record {
 
 -- ---- a loop is opened
 
-pub keeps_opened : (names more : Names) (S T : State) (id : TaskId) (lo hi target : ℕ) (args : List ℕ) → KeepsNames names more → LoopsStand (loops_of S) → OpensLoop S T id lo hi target args
+pub keeps_opened : (names more : Names) (S T : State) (id : TaskId) (lo hi target : ℕ) (args : List ℕ) → NamesGrow names more → LoopsStand (loops_of S) → OpensLoop S T id lo hi target args
     → KeepsLoops names more (loops_of S) (loops_of T)
 keeps_opened names more S T id lo hi target args named stands r = record {
   named = named;

@@ -15,10 +15,9 @@ use Rattle.gr_machine.specs.ScopeRuns.{loops_in}
 use Rattle.gr_stands.specs.Worlds.{Given, machine_in, World, bodies}
 use Rattle.gr_stands.specs.Actions.{ActionFits}
 use Rattle.gr_stands.specs.Calls.{StandsAt}
-use Rattle.gr_scopes.specs.Trees.{Names}
+use Rattle.gr_scopes.specs.Trees.{Names, NamesGrow}
 use Rattle.gr_shares.specs.Loops.{Loops, LoopsStand, loops_of}
 use Rattle.gr_shares.specs.Shares.{SharesHold}
-use Rattle.gr_shares.specs.ShareActs.{KeepsNames}
 use Rattle.gr_shares_steals.specs.Sharing.{KeepsShares}
 use Rattle.gr_shares_loops.specs.Changes.{IsOfNoLoop, ScopesAreThere}
 use Rattle.gr_shares_units.specs.Leaving.{LeavesShares, LeavesLeft}
@@ -32,12 +31,12 @@ SharesStay =
 -- What an entry leaves: any by which no loop is opened or passed and no index begins, and the passing of a scope.
 abbrev pub OthersShare : Type 0
 OthersShare =
-    (given : Given) (names more : Names) (before after : State) (what : Entry) → LoopsStand (loops_of before) → KeepsNames names more → IsOfNoLoop what
+    (given : Given) (names more : Names) (before after : State) (what : Entry) → LoopsStand (loops_of before) → NamesGrow names more → IsOfNoLoop what
     → step given.program given.setup.cores given.setup.steps before what ≡ Some after → LeavesLeft names more (loops_of before) (loops_of after)
 
 abbrev pub PassesShare : Type 0
 PassesShare =
-    (given : Given) (names more : Names) (before after : State) (id : TaskId) → LoopsStand (loops_of before) → KeepsNames names more
+    (given : Given) (names more : Names) (before after : State) (id : TaskId) → LoopsStand (loops_of before) → NamesGrow names more
     → step given.program given.setup.cores given.setup.steps before (entry.Pass id) ≡ Some after → LeavesLeft names more (loops_of before) (loops_of after)
 
 -- Run: a single task starts.
@@ -53,7 +52,7 @@ LoopsShare =
     (given : Given) (names more : Names) (world : World) (before after : State) (me slot : ℕ) (task : Suspended) (body : Body) (scope : ScopeId) (lo hi grain target : ℕ) (args : List ℕ)
     → SharesHold given names world (loops_of before) → me < given.setup.cores → body.work ≡ (bodies world me).work → body.steals ≡ (bodies world me).steals
     → StandsAt before task → task.action ≡ action.Loop lo hi grain target args → ActionFits (machine_in given) task.action → lo < hi → ScopesAreThere before
-    → KeepsNames names more → more (length before.scopes) ≡ Some scope
+    → NamesGrow names more → more (length before.scopes) ≡ Some scope
     → step given.program given.setup.cores given.setup.steps before (entry.Loop task.id lo hi grain target args) ≡ Some after
     → KeepsShares given world me [] (loops_in me body slot task lo hi grain target args scope) more (loops_of after)
 

@@ -18,7 +18,7 @@ use Rattle.gr_batches.specs.Keys.{IsOn}
 use Rattle.gr_batches.specs.Batches.{BatchStands, BatchesStand, MessageStands}
 use Rattle.gr_batches_steps.proofs.Steps.{pieces_keep_batches}
 use Rattle.gr_elements_apart.specs.Leaving.{IsOffLine}
-use Rattle.gr_elements_lines.specs.Lines.{HasLines, BatchIsOff}
+use Rattle.gr_elements_lines.specs.Lines.{HasWords, BatchIsOff}
 use Rattle.gr_elements_lines.proofs.Words as words
 use Rattle.gr_fits.specs.Reached.{RunsAccepted}
 use Rattle.gr_fits_objects.proofs.Few.{heap_apart}
@@ -77,8 +77,8 @@ module _ (given : Given) (sent : Sent) (w : World) (S : State) (me from : ℕ) (
 -- ---- the words of vectors
 
 module _ (given : Given) where
-  stays : (held : ℕ → List ℕ) (S N : State) → N ≡ S → HasLines given S held → HasLines given N held
-  stays held S N same f = subst (λ (x : State). HasLines given x held) (sym same) f
+  stays : (held : ℕ → List ℕ) (S N : State) → N ≡ S → HasWords given S held → HasWords given N held
+  stays held S N same f = subst (λ (x : State). HasWords given x held) (sym same) f
 
   pub lists : StagesKeepLists given
   lists sent w v S N me (ran slots) at = words.runs_keep given sent w S N me slots at.parts.words at.made.1.leads at.parts.lists

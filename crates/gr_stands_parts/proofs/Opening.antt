@@ -8,7 +8,7 @@ use Rattle.gr_lang.specs.Objects.{line}
 use Rattle.gr_lang.specs.Openings.{objects_from, opening}
 use Rattle.gr_machine.specs.Openings.{is_vector}
 use Rattle.gr_stands.specs.Worlds.{Given}
-use Rattle.gr_elements_lines.specs.Lines.{HasLines}
+use Rattle.gr_elements_lines.specs.Lines.{HasWords}
 
 -- A vector among the objects with which a run opens has no words.
 empty_at : (items : List Item) (from number : ℕ)
@@ -27,6 +27,6 @@ empty_at (item.Show name ∷ more) from number h = empty_at more from number h
 empty_at (item.Input name values ∷ more) from number h = empty_at more from number h
 empty_at (item.Task name params body ∷ more) from number h = empty_at more from number h
 
-pub none_have_words : (given : Given) → HasLines given (opening_state given.program given.setup.steps) (λ number. [])
+pub none_have_words : (given : Given) → HasWords given (opening_state given.program given.setup.steps) (λ number. [])
 unfolding opening
 none_have_words given number is = empty_at given.program.items 0 number is

@@ -3,15 +3,14 @@ use Rattle.std.specs.Prelude.{ℕ}
 use Rattle.gr_lang.specs.States.{State}
 use Rattle.gr_machine.specs.Histories.{Sent}
 use Rattle.gr_stands.specs.Worlds.{Given, World}
-use Rattle.gr_scopes.specs.Trees.{Names, tree_of}
+use Rattle.gr_scopes.specs.Trees.{Names, tree_of, NamesGrow}
 use Rattle.gr_scopes.specs.Scopes.{ScopesStand}
-use Rattle.gr_scopes_runs.specs.Leading.{NamesGrow}
 use Rattle.gr_scopes_steps.specs.Stepping.{GrownStand}
 use Rattle.gr_batches.specs.Batches.{BatchesStand}
 use Rattle.gr_lines.specs.Waiting.{LinesStand}
 use Rattle.gr_lines_turns.specs.Tokens.{TurnsStand}
 use Rattle.gr_elements_steps.specs.Behind.{ElementsHold}
-use Rattle.gr_elements_lines.specs.Lines.{HasLines}
+use Rattle.gr_elements_lines.specs.Lines.{HasWords}
 use Rattle.gr_stands_parts.specs.Stages.{Stage, begins, is_last, IsMade, sent_then, ends_then, words_then}
 use Rattle.gr_stands_parts.specs.Parts.{WorkAt, PartsStand, RoomAt}
 
@@ -59,4 +58,4 @@ StagesKeepElements given =
 abbrev pub StagesKeepLists : Given → Type 0
 StagesKeepLists given =
     (sent : Sent) (before later : World) (state next : State) (me : ℕ) (stage : Stage)
-    → (at : StageStands given sent before later state next me stage) → HasLines given next (words_then before me at.parts.words stage)
+    → (at : StageStands given sent before later state next me stage) → HasWords given next (words_then before me at.parts.words stage)

@@ -12,7 +12,7 @@ use Rattle.gr_lines.specs.Waiting.{LinesStand}
 use Rattle.gr_lines_turns.specs.Tokens.{TurnsStand}
 use Rattle.gr_lines_steps.specs.Behind.{GrantsTell}
 use Rattle.gr_elements_steps.specs.Behind.{ElementsHold}
-use Rattle.gr_elements_lines.specs.Lines.{HasLines}
+use Rattle.gr_elements_lines.specs.Lines.{HasWords}
 use Rattle.gr_fits.specs.Reached.{IsReached}
 use Rattle.gr_bounds_stands.specs.Standing.{BoundsStand}
 use Rattle.gr_bounds_stands.specs.Telling.{BoundsTell}
@@ -34,7 +34,7 @@ pub record PartsStand (given : Given) (rests : Bool) (me : ℕ) (sent : Sent) (w
   pub ends : ℕ → Ends
   pub turns : TurnsStand given world ends
   pub words : ℕ → List ℕ
-  pub lists : HasLines given state words
+  pub lists : HasWords given state words
   pub elements : ElementsHold given world ends words
 
 -- Between events, whatever the core.

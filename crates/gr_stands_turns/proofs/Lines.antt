@@ -11,12 +11,12 @@ use Rattle.gr_stands_turns.specs.Turning.{IsOfLine}
 
 -- ---- lists
 
-set_there : {X : Type 0} (xs : List X) (i : ℕ) (x y : X) → slice_get xs i ≡ Some y → slice_get (slice_set xs i x) i ≡ Some x
+pub set_there : {X : Type 0} (xs : List X) (i : ℕ) (x y : X) → slice_get xs i ≡ Some y → slice_get (slice_set xs i x) i ≡ Some x
 set_there [] i x y e = absurd (cc)
 set_there (z ∷ xs) zero x y e = refl
 set_there (z ∷ xs) (suc i) x y e = set_there xs i x y e
 
-set_other : {X : Type 0} (xs : List X) (i j : ℕ) (x : X) → j ≢ i → slice_get (slice_set xs i x) j ≡ slice_get xs j
+pub set_other : {X : Type 0} (xs : List X) (i j : ℕ) (x : X) → j ≢ i → slice_get (slice_set xs i x) j ≡ slice_get xs j
 set_other [] i j x ne = refl
 set_other (z ∷ xs) zero zero x ne = absurd (ne refl)
 set_other (z ∷ xs) zero (suc j) x ne = refl
