@@ -29,7 +29,7 @@ use Rattle.gr_stands_outcomes.specs.Marks.{entries_from}
 use Rattle.gr_stands_steps.specs.Telling.{message_outcome}
 use Rattle.gr_stands_made.specs.Pieces.{ran_at}
 use Rattle.gr_lines.specs.Lines.{vector_in, tasks_on}
-use Rattle.gr_lines.specs.Waiting.{IsWaiting, HasWords as HasCalls}
+use Rattle.gr_lines.specs.Waiting.{IsWaiting, HasLines}
 use Rattle.gr_lines_tokens.proofs.Served.{calls_of_vector}
 use Rattle.gr_elements_apart.specs.Leaving.{IsOfNoLine, IsMarkBehind, IsOffElements}
 use Rattle.gr_elements_apart.proofs.Runs.{tasks_leave, units_leave}
@@ -126,7 +126,7 @@ true_if a b q = grind (arith, nat_tests)
 false_if : (a b : ℕ) → a ≢ b → (a == b) ≡ false
 false_if a b ne = grind (arith, nat_tests)
 
-module _ (given : Given) (sent : Sent) (S N : State) (me : ℕ) (body : Body) (words : ℕ → List ℕ) (lines : HasCalls given me body) (number : ℕ) (there : HasLine number (words number) S) where
+module _ (given : Given) (sent : Sent) (S N : State) (me : ℕ) (body : Body) (words : ℕ → List ℕ) (lines : HasLines given me body) (number : ℕ) (there : HasLine number (words number) S) where
   abbrev machine : Machine
   machine = machine_in given
 
