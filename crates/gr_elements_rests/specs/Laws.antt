@@ -31,6 +31,15 @@ abbrev pub TurnsPutAsPlanned : Given → World → Type 0
 TurnsPutAsPlanned given world =
     (number core : ℕ) (turn : Turn) → core < given.setup.cores → (vector_at number (bodies world) core).turn ≡ Some turn → PutsAsPlanned turn
 
+-- Of a world and a plain state: calls that wait on vectors, whose turn it is of each, which words it has and where they are; and each turn puts words only as its
+-- plan does.
+pub record RestStands (given : Given) (ends : ℕ → Ends) (words : ℕ → List ℕ) (world : World) (state : State) : Type 0 where
+  pub lines : LinesStand given world
+  pub turns : TurnsStand given world ends
+  pub lists : HasWords given state words
+  pub elements : ElementsHold given world ends words
+  pub planned : TurnsPutAsPlanned given world
+
 -- Where turns have no calls, each word of each vector is at its home.
 abbrev pub RestsAreFound : Type 0
 RestsAreFound =

@@ -73,8 +73,7 @@ module _ (unused : UnusedCoresRun) (merges : RunsMerge) (contents : ContentsStan
   had_bodies core default here = ap (λ (it : states.Core). it.body) (sym (had core default here))
 
   rests : run.state.passed ≡ true → VectorsRest given (bodies (world_in world)) run.state.objects
-  rests = rest given run.holds.ends run.holds.words (world_in world) run.state run.stands.stands (record {
-    reached = run.holds.reached;
+  rests = rest given run.holds.ends run.holds.words (world_in world) run.state run.holds.reached run.stands.stands (record {
     lines = run.holds.lines;
     turns = run.holds.turns;
     lists = run.holds.lists;

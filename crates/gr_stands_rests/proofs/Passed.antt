@@ -50,6 +50,6 @@ module _ (given : Given) (world : World) (state : State) (stands : Stands given 
           (held_so number ((bodies world core).tasks.slots call.slot) e.0.task e.0.there) e.0.waits)
 
 pub passed_rest : PassedStatesAreDone → laws.PassedRunsRest
-passed_rest done given ends words world state stands rest passed =
+passed_rest done given ends words world state reached stands rest passed =
     rests_found given world state ends words stands rest.lines rest.turns rest.elements rest.lists rest.planned
-    (no_calls given world state stands rest.lines (done given state rest.reached passed).0)
+    (no_calls given world state stands rest.lines (done given state reached passed).0)

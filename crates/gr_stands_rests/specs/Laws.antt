@@ -8,14 +8,15 @@ use Rattle.gr_machine.specs.Nets.{world_in}
 use Rattle.gr_stands.specs.Worlds.{Given, machine_in, World, bodies}
 use Rattle.gr_stands.specs.Stands.{Stands}
 use Rattle.gr_stands_contents.specs.Rests.{VectorsRest}
-use Rattle.gr_elements_rests.specs.Laws.{TurnsPutAsPlanned}
-use Rattle.gr_stands_rests.specs.Rests.{RestStands}
+use Rattle.gr_fits.specs.Reached.{IsReached}
+use Rattle.gr_elements_rests.specs.Laws.{RestStands, TurnsPutAsPlanned}
 
--- Where the root scope is passed, each word of each vector is at its home.
+-- Where a legal history has passed the root scope, each word of each vector is at its home.
 abbrev pub PassedRunsRest : Type 0
 PassedRunsRest =
     (given : Given) (ends : ℕ → Ends) (words : ℕ → List ℕ) (world : World) (state : State)
-    → Stands given world state → RestStands given ends words world state → state.passed ≡ true → VectorsRest given (bodies world) state.objects
+    → IsReached given state → Stands given world state → RestStands given ends words world state → state.passed ≡ true
+    → VectorsRest given (bodies world) state.objects
 
 -- Under every schedule each turn of a run puts words only as its plan does.
 abbrev pub RunsPutAsPlanned : Type 0
