@@ -1,7 +1,7 @@
 -- The chunk that comes next is one of the part of work.
 use Rattle.gr_msg.specs.declared.message.Unit.TheVariants as unit
 use Rattle.gr_stands.specs.Worlds.{bodies}
-use Rattle.gr_stands_births.proofs.Started.{taken_fit}
+use Rattle.gr_stands_calls.proofs.Queues.{taken_fit}
 use Rattle.gr_shares.specs.Loops.{loops_of}
 use Rattle.gr_shares.specs.Shares.{ChunkStands, UnitShares}
 use Rattle.gr_shares_loops.proofs.Changed.{loops_are_waited_at}

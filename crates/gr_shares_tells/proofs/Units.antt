@@ -13,7 +13,7 @@ use Rattle.gr_stands.specs.Worlds.{Given, machine_in, World, bodies}
 use Rattle.gr_stands.specs.Censuses.{body_census, census}
 use Rattle.gr_stands.specs.Calls.{UnitFits}
 use Rattle.gr_stands.specs.Stands.{Stands}
-use Rattle.gr_stands_births.proofs.Started.{taken_weigh, taken_fit}
+use Rattle.gr_stands_calls.proofs.Queues.{taken_weigh, taken_fit}
 use Rattle.gr_stands_units.specs.Indices.{IsIndex, UnitTells}
 use Rattle.gr_scopes.specs.Trees.{Names}
 use Rattle.gr_shares.specs.Loops.{Loop, loops_of, within, left_in, left_at}

@@ -24,7 +24,7 @@ use Rattle.gr_machine.specs.Spawns.{private_first}
 use Rattle.gr_machine.specs.Runs.{first_unit, without_unit, with_rest, splits, begins}
 use Rattle.gr_stands.specs.Worlds.{Given, machine_in, World, bodies}
 use Rattle.gr_stands.proofs.Places.{cases_id}
-use Rattle.gr_stands_births.proofs.Started.{TakenFit, taken_weigh, taken_fit}
+use Rattle.gr_stands_calls.proofs.Queues.{TakenFit, taken_weigh, taken_fit}
 use Rattle.gr_scopes.specs.Trees.{Names}
 use Rattle.gr_shares.specs.Loops.{Loop, Loops, loops_of, within, left_at}
 use Rattle.gr_shares.specs.Shares.{if_owner, covers, UnitShares, SharesHold}

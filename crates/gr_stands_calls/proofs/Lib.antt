@@ -6,3 +6,4 @@ pub mod Made
 pub mod Ended
 pub mod Rests
 pub mod Stays
+pub mod Queues

@@ -1,3 +1,4 @@
 pub mod Follows
 pub mod Senders
 pub mod Same
+pub mod Actions

@@ -1,13 +1,14 @@
 -- The laws of outcomes one after another in one event, and of the senders of messages.
-use Rattle.std.specs.Prelude.{◌≡◌, ℕ, ◌<◌, List, [], Option}
+use Rattle.std.specs.Prelude.{◌≡◌, ℕ, ◌<◌, List, [], Option, Some}
 use Rattle.gr_lang.specs.States.{State}
 use Rattle.gr_msg.specs.declared.message.Msg.{Msg}
 use Rattle.gr_view.specs.Places.{put}
+use Rattle.gr_net.specs.Worlds.{Without}
 use Rattle.gr_machine.specs.States.{Letter}
 use Rattle.gr_machine.specs.Outcomes.{Outcome, followed}
 use Rattle.gr_machine.specs.GlobalRuns.{opening_world}
 use Rattle.gr_machine.specs.Nets.{world_in}
-use Rattle.gr_stands.specs.Worlds.{Given, machine_in, World, bodies, Acts, Moves}
+use Rattle.gr_stands.specs.Worlds.{Given, machine_in, Core, World, bodies, Acts, Moves}
 use Rattle.gr_stands.specs.Memory.{SameMemory}
 use Rattle.gr_stands.specs.Stands.{Stands}
 use Rattle.gr_stands_calls.specs.Acting.{IsFirstLetter, Keeps, ActsQuietly, ActsWithEntry}
@@ -31,6 +32,15 @@ abbrev pub EntriesAct : Type 0
 EntriesAct =
     (given : Given) (world : World) (state : State) (me : ℕ) (got : List Letter) (made : Option Outcome)
     → ActsWithEntry given world state me got made → ActsWithEntries given world state me got made
+
+-- Where an outcome acts with entries, and in each world after it another one does, both act with the entries of both.
+abbrev pub ActionsFollow : Type 0
+ActionsFollow =
+    (given : Given) (world : World) (state : State) (me : ℕ) (got : List Letter) (core : Core) (first second : Outcome)
+    → me < given.setup.cores → Without world me core got
+    → (row : ActsWithEntries given world state me got (Some first))
+    → ((between : World) → bodies between ≡ put (bodies world) me first.body → Stands given between row.next → ActsWithEntries given between row.next me [] (Some second))
+    → ActsWithEntries given world state me got (Some (followed first second))
 
 -- A world that stands for a state stands for each with the same tasks and the same memory.
 abbrev pub SameTasksStand : Type 0

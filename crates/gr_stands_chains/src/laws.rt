@@ -16,3 +16,8 @@ pub fn senders_stand()
     ensures moves { laws.SendersMove }
     ensures first { laws.FirstsHaveSenders }
 {}
+
+/// An outcome that acts with entries, and another one after it, act with the entries of both.
+pub fn actions_follow()
+    ensures { laws.ActionsFollow }
+{}

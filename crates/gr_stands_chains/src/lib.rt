@@ -4,4 +4,4 @@
 
 mod laws;
 
-pub use laws::{outcomes_follow, senders_stand};
+pub use laws::{actions_follow, outcomes_follow, senders_stand};

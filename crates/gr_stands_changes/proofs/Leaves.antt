@@ -7,7 +7,7 @@ use Rattle.gr_work.specs.Queues.{Queues}
 use Rattle.gr_net.specs.Sums.{weigh, Each}
 use Rattle.gr_net.proofs.Spreads.{Each-map}
 use Rattle.gr_machine.specs.States.{Letter}
-use Rattle.gr_machine.specs.Outcomes.{Outcome, Send}
+use Rattle.gr_machine.specs.Outcomes.{Outcome, Send, quietly}
 use Rattle.gr_stands.specs.Worlds.{Given, World, bodies}
 use Rattle.gr_stands.specs.Censuses.{is_single, carried}
 use Rattle.gr_stands.specs.Calls.{UnitFits}
@@ -55,3 +55,7 @@ leaving_is_kept given w S T c got e st here a tasks memory next acts =
     let both = leaves_kept given w S c got e st here a next acts in
     let after = same_tasks_stand given next S T tasks memory (record { words = both.1; calls = both.0 }) in
     (after.calls, after.words)
+
+-- Nothing happens.
+pub nothing_happens : (given : Given) (w : World) (S : State) (c : ℕ) → Stands given w S → c < given.setup.cores → Keeps given w c [] (quietly (bodies w c)) S
+nothing_happens given w S c st here = leaves_kept given w S c [] (quietly (bodies w c)) st here (record { tasks = refl; work = refl; words = refl; letters = tt; sends = tt })

@@ -23,7 +23,7 @@ use Rattle.gr_stands.specs.Calls.{UnitFits}
 use Rattle.gr_stands_calls.specs.Acting.{letter}
 use Rattle.gr_stands_calls.proofs.Common.{first_fits}
 use Rattle.gr_stands_calls.proofs.Stays.{tasks_stay}
-use Rattle.gr_stands_births.proofs.Started.{TakenFit, taken_weigh, taken_fit}
+use Rattle.gr_stands_calls.proofs.Queues.{TakenFit, taken_weigh, taken_fit}
 use Rattle.gr_stands_changes.specs.Laws as laws
 use Rattle.gr_stands_changes.proofs.Leaves.{leaves_kept}
 

@@ -29,8 +29,8 @@ use Rattle.gr_stands_chains.specs.Chains.{ActsWithEntries}
 use Rattle.gr_stands_chains.proofs.Follows.{quiet_outcomes_act, entries_act}
 use Rattle.gr_stands_births.proofs.Planted.{spawns_are_made}
 use Rattle.gr_stands_changes.proofs.Leaves.{leaves_kept}
-use Rattle.gr_stands_series.proofs.Follows.{actions_follow}
-use Rattle.gr_stands_series.proofs.Lists.{nothing_happens}
+use Rattle.gr_stands_chains.proofs.Actions.{actions_follow}
+use Rattle.gr_stands_changes.proofs.Leaves.{nothing_happens}
 use Rattle.gr_stands_enrols.specs.Enrolling.{IsEnrolling, AreEnrolling, EnrolTells}
 use Rattle.gr_stands_enrols.specs.Laws as laws
 

@@ -22,7 +22,7 @@ use Rattle.gr_stands.specs.Calls.{StandsAt, times, UnitFits}
 use Rattle.gr_stands.specs.Stands.{Stands}
 use Rattle.gr_stands_calls.specs.Acting.{IsFirst}
 use Rattle.gr_stands_calls.proofs.Common.{first_stands}
-use Rattle.gr_stands_births.proofs.Started.{taken_fit}
+use Rattle.gr_stands_calls.proofs.Queues.{taken_fit}
 use Rattle.gr_stands_outcomes.specs.Inner.{outcome_of, run_outcome}
 use Rattle.gr_stands_steps.proofs.Runs.{some_none, last_some, first_free, no_ready}
 use Rattle.gr_stands_steps.proofs.Steps.{lower}

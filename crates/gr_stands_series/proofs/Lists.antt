@@ -21,16 +21,12 @@ use Rattle.gr_stands_calls.proofs.Common.{same_memory}
 use Rattle.gr_stands_chains.proofs.Follows.{outcomes_follow_on}
 use Rattle.gr_stands_changes.specs.Changes.{ChangesSlot}
 use Rattle.gr_stands_changes.proofs.Slots.{slot_changes_are_kept}
-use Rattle.gr_stands_changes.proofs.Leaves.{leaves_kept}
+use Rattle.gr_stands_changes.proofs.Leaves.{nothing_happens}
 use Rattle.gr_stands_series.specs.Lists.{IsPending, MayWait, AllMayWait, MayGoOn, AllMayGoOn}
 use Rattle.gr_stands_series.specs.Laws as laws
 
 some_same : {X : Type 0} (x y : X) → Some x ≡ Some y → x ≡ y
 some_same x y e = cc
-
--- Nothing happens.
-pub nothing_happens : (given : Given) (w : World) (S : State) (c : ℕ) → Stands given w S → c < given.setup.cores → Keeps given w c [] (quietly (bodies w c)) S
-nothing_happens given w S c st here = leaves_kept given w S c [] (quietly (bodies w c)) st here (record { tasks = refl; work = refl; words = refl; letters = tt; sends = tt })
 
 -- ---- tasks that wait for something else
 

@@ -1,4 +1,4 @@
--- The laws of several outcomes in one event.
+-- The laws of tasks that change in their slots, one after another.
 use Rattle.std.specs.Prelude.{◌≡◌, ℕ, ◌<◌, List, [], Some}
 use Rattle.gr_lang.specs.declared.action.WaitingCall.{WaitingCall}
 use Rattle.gr_lang.specs.States.{State}
@@ -14,15 +14,6 @@ use Rattle.gr_stands.specs.Stands.{Stands}
 use Rattle.gr_stands_calls.specs.Acting.{Keeps}
 use Rattle.gr_stands_chains.specs.Chains.{ActsWithEntries}
 use Rattle.gr_stands_series.specs.Lists.{IsPending, AllMayWait, AllMayGoOn}
-
--- Where an outcome acts with entries, and in each world after it another one does, both act with the entries of both.
-abbrev pub ActionsFollow : Type 0
-ActionsFollow =
-    (given : Given) (world : World) (state : State) (me : ℕ) (got : List Letter) (core : Core) (first second : Outcome)
-    → me < given.setup.cores → Without world me core got
-    → (row : ActsWithEntries given world state me got (Some first))
-    → ((between : World) → bodies between ≡ put (bodies world) me first.body → Stands given between row.next → ActsWithEntries given between row.next me [] (Some second))
-    → ActsWithEntries given world state me got (Some (followed first second))
 
 -- The tasks of some calls wait for something else.
 abbrev pub WaitsAreChanged : Type 0

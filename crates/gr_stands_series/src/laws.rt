@@ -1,11 +1,6 @@
 //! The laws, each the contract of a function that does nothing.
 ghost use Rattle.gr_stands_series.specs.Laws as laws;
 
-/// An outcome that acts with entries, and another one after it, act with the entries of both.
-pub fn actions_follow()
-    ensures { laws.ActionsFollow }
-{}
-
 /// The tasks of some calls wait for something else, or go on with their replies.
 pub fn lists_are_kept()
     ensures waits { laws.WaitsAreChanged }

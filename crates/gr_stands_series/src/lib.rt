@@ -1,6 +1,6 @@
-//! Several outcomes in one event that leave entries; and outcomes that change many tasks in their slots, one after another.
+//! Outcomes that change many tasks in their slots, one after another.
 #![tactic(auto)]
 
 mod laws;
 
-pub use laws::{actions_follow, lists_are_kept};
+pub use laws::lists_are_kept;

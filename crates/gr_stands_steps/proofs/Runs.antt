@@ -24,7 +24,7 @@ use Rattle.gr_stands.proofs.Places.{times_self}
 use Rattle.gr_stands_calls.specs.Acting.{IsFirst}
 use Rattle.gr_stands_calls.proofs.Common.{first_stands}
 use Rattle.gr_stands_calls.proofs.Stays.{tasks_stay}
-use Rattle.gr_stands_births.proofs.Started.{TakenFit, taken_weigh, taken_fit}
+use Rattle.gr_stands_calls.proofs.Queues.{TakenFit, taken_weigh, taken_fit}
 use Rattle.gr_stands_changes.proofs.Leaves.{leaves_kept}
 use Rattle.gr_stands_changes.proofs.Units.{chunks_are_split}
 use Rattle.gr_stands_units.proofs.Units.{units_are_taken_up}

@@ -30,8 +30,8 @@ use Rattle.gr_stands_changes.specs.Quiet.{IsQuiet}
 use Rattle.gr_stands_changes.proofs.Leaves.{leaves_kept}
 use Rattle.gr_stands_changes.proofs.Quiet.{quiet_messages_are_served}
 use Rattle.gr_stands_changes.proofs.Units.{gifts_are_taken}
-use Rattle.gr_stands_series.proofs.Follows.{actions_follow}
-use Rattle.gr_stands_series.proofs.Lists.{nothing_happens}
+use Rattle.gr_stands_chains.proofs.Actions.{actions_follow}
+use Rattle.gr_stands_changes.proofs.Leaves.{nothing_happens}
 use Rattle.gr_stands_closes.proofs.Replies.{batches_come_back}
 use Rattle.gr_stands_turns.specs.Turning.{TurnTells}
 use Rattle.gr_stands_turns.proofs.Turns.{turns_finish}

@@ -41,8 +41,8 @@ use Rattle.gr_stands_chains.proofs.Follows.{quiet_outcomes_act}
 use Rattle.gr_stands_changes.specs.Changes.{ChangesSlot}
 use Rattle.gr_stands_changes.proofs.Slots.{slot_changes_are_kept}
 use Rattle.gr_stands_changes.proofs.Leaves.{leaves_kept}
-use Rattle.gr_stands_series.proofs.Follows.{actions_follow}
-use Rattle.gr_stands_series.proofs.Lists.{nothing_happens}
+use Rattle.gr_stands_chains.proofs.Actions.{actions_follow}
+use Rattle.gr_stands_changes.proofs.Leaves.{nothing_happens}
 use Rattle.gr_stands_turns.specs.Turning.{IsOfLine, IsAnswered, AreAnswered, TurnTells}
 use Rattle.gr_stands_turns.specs.Laws as laws
 use Rattle.gr_stands_turns.proofs.Lines.{line_there, line_memory, line_call}

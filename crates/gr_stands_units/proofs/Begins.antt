@@ -33,7 +33,7 @@ use Rattle.gr_stands.proofs.Places.{none_elsewhere, times_last, times_before, ca
 use Rattle.gr_stands_calls.specs.Stays.{singles_in}
 use Rattle.gr_stands_calls.proofs.Slots.{none_some, ready_kept, subst_slot, units_kept}
 use Rattle.gr_stands_calls.proofs.Common.{same_memory, kept_by}
-use Rattle.gr_stands_births.proofs.Started.{TakenFit, taken_weigh, taken_fit}
+use Rattle.gr_stands_calls.proofs.Queues.{TakenFit, taken_weigh, taken_fit}
 use Rattle.gr_stands_units.specs.Indices.{IsIndex}
 use Rattle.gr_stands_units.specs.Laws as laws
 

@@ -20,7 +20,7 @@ use Rattle.gr_stands.proofs.Worlds.{acted_bodies}
 use Rattle.gr_stands_calls.specs.Acting.{Keeps}
 use Rattle.gr_stands_chains.specs.Chains.{marks_of, ActsWithEntries}
 use Rattle.gr_stands_chains.proofs.Follows.{outcomes_follow_on}
-use Rattle.gr_stands_series.specs.Laws as laws
+use Rattle.gr_stands_chains.specs.Laws as laws
 
 some_same : {X : Type 0} (x y : X) → Some x ≡ Some y → x ≡ y
 some_same x y e = cc
